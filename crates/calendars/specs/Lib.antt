@@ -1,0 +1,5 @@
+pub mod Bounds
+pub mod Faults
+pub mod Laws
+pub mod Masks
+pub mod Places

@@ -1,0 +1,10 @@
+pub mod Counting
+pub mod Boards
+pub mod Dealing
+pub mod Late
+pub mod Seating
+pub mod Choice
+pub mod Reasons
+pub mod Keeping
+pub mod Stretches
+pub mod Insertion

@@ -1,0 +1,5 @@
+pub mod ClassedFacts
+pub mod HighFirst
+pub mod PointsFacts
+pub mod ShareFacts
+pub mod Sums

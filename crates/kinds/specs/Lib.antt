@@ -1,0 +1,5 @@
+pub mod Bytes
+pub mod ClassLevels
+pub mod ClassedKind
+pub mod PointsKind
+pub mod ShareKind

@@ -1,0 +1,10 @@
+pub mod Index
+pub mod Stretches
+pub mod Keeping
+pub mod Sound
+pub mod Totals
+pub mod Seats
+pub mod Exists
+pub mod Ranks
+pub mod Orders
+pub mod Change

@@ -1,0 +1,72 @@
+// Reads a job sheet from standard input and prints what it holds, or the line `refused N at B`.
+ghost use Prim.Native.Nat.{_≤_};
+ghost use lib.ListN.{length};
+ghost use Rattle.std.specs.Vec.{made};
+
+mod account;
+mod printed;
+mod rank;
+
+use account::print_account;
+use kinds::classed::Classed;
+use kinds::points::Points;
+use kinds::share::Share;
+use printed::ClassedPrinted;
+use printed::PointsPrinted;
+use printed::PrintedWeight;
+use printed::SharePrinted;
+use sheets::fault::LoadFault;
+use sheets::kind::Kind;
+use sheets::kind::kind_of;
+use sheets::reader::read;
+use std::error::AnyError;
+use std::io;
+use std::io::Read;
+
+// The kind record, the longest calendar record and 257 job records of the widest kind: what follows them cannot change the answer.
+const LONGEST: usize = 4372;
+
+// The input's front, as far as the buffer reaches: how many bytes there were.
+fn read_front(input: &mut impl Read, sheet: &mut [u8]) -> io::Result<usize>
+    ensures { λ r. ⌜ made r (λ len. len ≤ length (now (sheet .entry))) ⌝ }
+{
+    let mut len = 0;
+    for _ in 0..sheet.len() {
+        let got = input.read(&mut sheet[len..])?;
+        if got == 0 {
+            break;
+        }
+        len += got;
+    }
+    Ok(len)
+}
+
+// The refusal's line; the error ends the program with status 1.
+fn refuse(rt: &LibcRuntime, fault: LoadFault) -> Result<(), AnyError> {
+    let number = fault.number();
+    let byte = fault.byte();
+    println!(rt, "refused {number} at {byte}")?;
+    Err("refused".into())
+}
+
+fn report<W: PrintedWeight>(rt: &LibcRuntime, bytes: &[u8]) -> Result<(), AnyError> {
+    match read::<W>(bytes) {
+        Ok(sheet) => {
+            print_account(rt, &sheet)?;
+            Ok(())
+        }
+        Err(fault) => refuse(rt, fault),
+    }
+}
+
+fn main(rt: LibcRuntime) -> Result<(), AnyError> {
+    let mut buffer = [0u8; LONGEST];
+    let len = read_front(&mut rt.stdin(), &mut buffer)?;
+    let bytes = &buffer[0..len];
+    match kind_of(bytes) {
+        Ok(Kind::Points) => report::<Points>(&rt, bytes),
+        Ok(Kind::Classed) => report::<Classed>(&rt, bytes),
+        Ok(Kind::Share) => report::<Share>(&rt, bytes),
+        Err(fault) => refuse(&rt, fault),
+    }
+}

@@ -1,0 +1,6 @@
+pub mod JobRecords
+pub mod OneCause
+pub mod OneReading
+pub mod Records
+pub mod Steps
+pub mod Whole

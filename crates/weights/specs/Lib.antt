@@ -1,0 +1,4 @@
+pub mod Fault
+pub mod Kind
+pub mod Picking
+pub mod Ranking
