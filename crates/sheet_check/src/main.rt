@@ -7,7 +7,8 @@ mod account;
 mod printed;
 mod rank;
 
-use account::print_account;
+use account::account;
+use account::refusal;
 use kinds::classed::Classed;
 use kinds::points::Points;
 use kinds::share::Share;
@@ -41,18 +42,19 @@ fn read_front(input: &mut impl Read, sheet: &mut [u8]) -> io::Result<usize>
     Ok(len)
 }
 
-// The refusal's line; the error ends the program with status 1.
+// Prints the refusal's line; the error ends the program with status 1.
 fn refuse(rt: &LibcRuntime, fault: LoadFault) -> Result<(), AnyError> {
-    let number = fault.number();
-    let byte = fault.byte();
-    println!(rt, "refused {number} at {byte}")?;
+    let line = refusal(rt.alloc(), fault)?;
+    rt.print(line.as_str())?;
     Err("refused".into())
 }
 
+// Prints the account of a sheet of the kind W, or refuses it.
 fn report<W: PrintedWeight>(rt: &LibcRuntime, bytes: &[u8]) -> Result<(), AnyError> {
     match read::<W>(bytes) {
         Ok(sheet) => {
-            print_account(rt, &sheet)?;
+            let text = account::<W>(rt.alloc(), &sheet)?;
+            rt.print(text.as_str())?;
             Ok(())
         }
         Err(fault) => refuse(rt, fault),
