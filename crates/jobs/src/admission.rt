@@ -2,7 +2,6 @@
 ghost use mathlib.Core.Path.{_≡_};
 ghost use Rattle.std.specs.Options.{Cases as BySome};
 ghost use Rattle.jobs.specs.Admission.{Admissible, RefusedFor, tableFaultNumber, tableFaultJob};
-
 use crate::terms::TableFault;
 
 impl TableFault {
@@ -32,7 +31,13 @@ impl TableFault {
 }
 
 // None where a table with `count` jobs, in which the number is taken or not, takes the job; else the first cause against it.
-pub fn admission(number: u16, ready: u16, deadline: u16, taken: bool, count: usize) -> Option<TableFault>
+pub fn admission(
+    number: u16,
+    ready: u16,
+    deadline: u16,
+    taken: bool,
+    count: usize,
+) -> Option<TableFault>
     ensures { λ r. ⌜ BySome r (Admissible number ready deadline taken count) (RefusedFor number ready deadline taken count) ⌝ }
 {
     if number == 0 {

@@ -6,7 +6,6 @@ ghost use Rattle.std.specs.Vec.{made};
 ghost use Rattle.calendars.specs.Masks.{listedMask};
 ghost use Rattle.calendars.specs.Places.{opens};
 ghost use Rattle.sheet_check.specs.Accounts.{jobLine, headLines, refusalLine, Account};
-
 use crate::printed::PrintedWeight;
 use crate::rank::ranked_jobs;
 use calendars::calendar::Calendar;
@@ -27,7 +26,10 @@ fn job_line<W: PrintedWeight>(heap: Global, job: &Job<W>) -> Result<String, Allo
     let ready = job.ready;
     let deadline = job.deadline;
     let weight = job.weight.text(heap)?;
-    format!(heap, "job {number} ready {ready} deadline {deadline} weight {weight}\n")
+    format!(
+        heap,
+        "job {number} ready {ready} deadline {deadline} weight {weight}\n"
+    )
 }
 
 // A sheet that was read has at most 1,024 masks, so that its calendar is always made.
@@ -41,12 +43,18 @@ fn head_lines<W: PrintedWeight>(heap: Global, sheet: &Sheet<'_, W>) -> Result<St
     let end = calendar.end();
     let places = open_places(&calendar);
     let count = sheet.job_count();
-    let text = format!(heap, "kind {kind}\ncalendar end {end}\nopen places {places}\njobs {count}\n")?;
+    let text = format!(
+        heap,
+        "kind {kind}\ncalendar end {end}\nopen places {places}\njobs {count}\n"
+    )?;
     Ok(text)
 }
 
 // The whole account of a sheet that was read.
-pub(crate) fn account<W: PrintedWeight>(heap: Global, sheet: &Sheet<'_, W>) -> Result<String, AnyError>
+pub(crate) fn account<W: PrintedWeight>(
+    heap: Global,
+    sheet: &Sheet<'_, W>,
+) -> Result<String, AnyError>
     ensures { λ r. ⌜ made r (λ t. Account (W·OrderedWeight .noLighter) (W·OrderedWeight .encoding) (W·PrintedWeight .called) (W·PrintedWeight .written) (now (now (sheet .entry) .masks)) (now (now (sheet .entry) .records)) (now (sheet .entry) .count) (string-bytes t)) ⌝ }
 {
     let mut text = head_lines(heap, sheet)?;

@@ -1,4 +1,5 @@
 // Reads a job sheet from standard input and prints what it holds, or the line `refused N at B`.
+ghost use mathlib.Core.Path.{_≡_};
 ghost use Prim.Native.Nat.{_≤_};
 ghost use lib.ListN.{length};
 ghost use Rattle.std.specs.Vec.{made};
@@ -10,13 +11,17 @@ mod rank;
 use account::account;
 use account::refusal;
 use kinds::classed::Classed;
+use kinds::classed::weight::ClassedOrdered;
 use kinds::points::Points;
+use kinds::points::weight::PointsOrdered;
 use kinds::share::Share;
+use kinds::share::weight::ShareOrdered;
 use printed::ClassedPrinted;
 use printed::PointsPrinted;
 use printed::PrintedWeight;
 use printed::SharePrinted;
 use sheets::fault::LoadFault;
+use sheets::front::deciding_front;
 use sheets::kind::Kind;
 use sheets::kind::kind_of;
 use sheets::reader::read;
@@ -24,8 +29,14 @@ use std::error::AnyError;
 use std::io;
 use std::io::Read;
 
-// The kind record, the longest calendar record and 257 job records of the widest kind: what follows them cannot change the answer.
-const LONGEST: usize = 4372;
+// As much of a sheet as decides its reading, whichever of the three kinds it is of.
+fn widest_front() -> usize
+    ensures { λ r. ⌜ r ≡ 4372 ⌝ }
+{
+    deciding_front::<Points>()
+        .max(deciding_front::<Classed>())
+        .max(deciding_front::<Share>())
+}
 
 // The input's front, as far as the buffer reaches: how many bytes there were.
 fn read_front(input: &mut impl Read, sheet: &mut [u8]) -> io::Result<usize>
@@ -62,8 +73,8 @@ fn report<W: PrintedWeight>(rt: &LibcRuntime, bytes: &[u8]) -> Result<(), AnyErr
 }
 
 fn main(rt: LibcRuntime) -> Result<(), AnyError> {
-    let mut buffer = [0u8; LONGEST];
-    let len = read_front(&mut rt.stdin(), &mut buffer)?;
+    let mut buffer = vec![in rt.alloc(); 0u8; widest_front()]?;
+    let len = read_front(&mut rt.stdin(), buffer.as_mut_slice())?;
     let bytes = &buffer[0..len];
     match kind_of(bytes) {
         Ok(Kind::Points) => report::<Points>(&rt, bytes),

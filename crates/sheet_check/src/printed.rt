@@ -7,7 +7,6 @@ ghost use Rattle.std.specs.Of.String.{string-bytes};
 ghost use Rattle.std.specs.Vec.{made};
 ghost use Rattle.std.specs.Written.{decimal};
 ghost use Rattle.sheet_check.specs.Names.{className};
-
 use kinds::class::Class;
 use kinds::classed::Classed;
 use kinds::classed::weight::ClassedOrdered;
@@ -22,6 +21,7 @@ use weights::kind::OrderedWeight;
 pub(crate) trait PrintedWeight: OrderedWeight {
     // The kind's name, and a weight, as text.
     ghost called: { List ℕ };
+
     ghost written: { Self → List ℕ };
 
     fn kind_name() -> &'static str
@@ -45,6 +45,7 @@ fn class_name(class: Class) -> &'static str
 
 pub(crate) impl PrintedWeight for Points as PointsPrinted {
     ghost called = { codes "points" };
+
     ghost written = { λ w. decimal (w .count) };
 
     fn kind_name() -> &'static str {
@@ -59,6 +60,7 @@ pub(crate) impl PrintedWeight for Points as PointsPrinted {
 
 pub(crate) impl PrintedWeight for Classed as ClassedPrinted {
     ghost called = { codes "classed" };
+
     ghost written = { λ w. className (w .class) ++ (codes ":" ++ decimal (w .points)) };
 
     fn kind_name() -> &'static str {
@@ -74,6 +76,7 @@ pub(crate) impl PrintedWeight for Classed as ClassedPrinted {
 
 pub(crate) impl PrintedWeight for Share as SharePrinted {
     ghost called = { codes "share" };
+
     ghost written = { λ w. decimal (w .part) ++ (codes "/" ++ decimal (w .whole)) };
 
     fn kind_name() -> &'static str {

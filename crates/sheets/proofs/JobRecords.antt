@@ -22,6 +22,9 @@ module _ {W : Type 0} (encoding : W → List ℕ) (width : ℕ) (sized : (w : W)
   pub record-long : (job : Job W) → length (recordBytes 3 (jobValue encoding job)) ≡ 9 + width
   record-long job = let s = value-long job in omega arith
 
+  pub longer : (head : Job W) (jobs : List (Job W)) → length (jobRecords encoding (head ∷ jobs)) ≡ 9 + width + length (jobRecords encoding jobs)
+  longer head jobs = length-append (recordBytes 3 (jobValue encoding head)) (jobRecords encoding jobs) ∙ ap (λ n. n + length (jobRecords encoding jobs)) (record-long head)
+
   -- some jobs' records that are long enough begin with one job's
   pub first-number : (number size n : ℕ) (rest : List ℕ) (left : List (Job W)) → size ≡ 9 + width → size ≤ length rest → rest ≡ jobRecords encoding left
       → n ≡ getD rest 3 0 * 256 + getD rest 4 0 → n ≡ number → taken number left ≡ true
@@ -56,7 +59,7 @@ job-at-read encoding records job k n width at w e h fits v =
     let long : at + (9 + n) - (at + 3) ≡ 9 + n - 3 = omega arith in
     subst (λ m. JobAt encoding (9 + m) records k job) w
     (subst (λ a. (a + (9 + n) ≤ length records) × (jobValue encoding job ≡ take (9 + n - 3) (drop (a + 3) records))) e
-      (omega arith, v ∙ ap (λ m. take m (drop (at + 3) records)) long))
+    (omega arith, v ∙ ap (λ m. take m (drop (at + 3) records)) long))
 
 -- a number, and so a job, is known by its bytes
 two-same : (m n : ℕ) → m / 256 ≡ n / 256 → m % 256 ≡ n % 256 → m ≡ n
@@ -97,16 +100,13 @@ module _ {W : Type 0} (encoding : W → List ℕ) (width : ℕ) (sized : (w : W)
       ap (λ n. drop n (jobRecords encoding (head ∷ jobs))) same ∙ sym (drop-drop (k * size + 3) size (jobRecords encoding (head ∷ jobs)))
       ∙ ap (drop (k * size + 3)) (drop-at one (jobRecords encoding jobs) size long)
 
-  longer : (head : Job W) (jobs : List (Job W)) → length (jobRecords encoding (head ∷ jobs)) ≡ 9 + width + length (jobRecords encoding jobs)
-  longer head jobs = length-append (recordBytes 3 (jobValue encoding head)) (jobRecords encoding jobs) ∙ ap (λ n. n + length (jobRecords encoding jobs)) (record-long encoding width sized head)
-
   later-there : (head : Job W) (jobs : List (Job W)) (k : ℕ) (job : Job W) → At jobs k job → At (head ∷ jobs) (suc k) job
   later-there head jobs k job a =
-      (omega (arith, suc-mul k (9 + width), longer head jobs, a .0), a .1 ∙ ap (take (9 + width - 3)) (sym (shift head jobs k)))
+      (omega (arith, suc-mul k (9 + width), longer encoding width sized head jobs, a .0), a .1 ∙ ap (take (9 + width - 3)) (sym (shift head jobs k)))
 
   later-back : (head : Job W) (jobs : List (Job W)) (k : ℕ) (job : Job W) → At (head ∷ jobs) (suc k) job → At jobs k job
   later-back head jobs k job a =
-      (omega (arith, suc-mul k (9 + width), longer head jobs, a .0), a .1 ∙ ap (take (9 + width - 3)) (shift head jobs k))
+      (omega (arith, suc-mul k (9 + width), longer encoding width sized head jobs, a .0), a .1 ∙ ap (take (9 + width - 3)) (shift head jobs k))
 
   -- the k-th job is found at the k-th record, and none else
   pub nth-at : (jobs : List (Job W)) (k : ℕ) (found : Option (Job W)) → BySome found ((job : Job W) → At jobs k job → ⊥) (λ job. At jobs k job) → found ≡ nth jobs k

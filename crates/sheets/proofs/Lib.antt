@@ -1,3 +1,4 @@
+pub mod Fronts
 pub mod JobRecords
 pub mod OneCause
 pub mod OneReading

@@ -29,9 +29,11 @@ record-front t u v w r s e =
     let high : length v / 256 ≡ length w / 256 = ap (λ l. getD l 1 0) e in
     let low : length v % 256 ≡ length w % 256 = ap (λ l. getD l 2 0) e in
     let long : length w ≡ length v = omega arith in
-    let body : v ++ r ≡ w ++ s = ap (drop 3) e in
-    (ap (λ l. getD l 0 0) e, sym (take-at v r (length v) refl) ∙ ap (take (length v)) body ∙ take-at w s (length v) long,
-      sym (drop-at v r (length v) refl) ∙ ap (drop (length v)) body ∙ drop-at w s (length v) long)
+    let body : v ++ r ≡ w ++ s = ap (drop 3) e in (
+      ap (λ l. getD l 0 0) e,
+      sym (take-at v r (length v) refl) ∙ ap (take (length v)) body ∙ take-at w s (length v) long,
+      sym (drop-at v r (length v) refl) ∙ ap (drop (length v)) body ∙ drop-at w s (length v) long,
+    )
 
 module _ (wanted least most : ℕ) (rest : List ℕ) where
   -- the causes against a frame, in the order in which they are checked
@@ -40,12 +42,12 @@ module _ (wanted least most : ℕ) (rest : List ℕ) where
       cond (eqb (length rest) 0) (Some OutOfOrder)
       (cond (ltb (length rest) 3) (Some EndsInside)
       (cond (leb 1 (tagOf rest) && leb (tagOf rest) 3)
-        (cond (eqb (tagOf rest) wanted)
-          (cond (leb least (lengthOf rest) && leb (lengthOf rest) most)
-            (cond (ltb (length rest) (3 + lengthOf rest)) (Some EndsInside) None)
-            (Some WrongLength))
-          (Some OutOfOrder))
-        (Some UnknownTag)))
+      (cond (eqb (tagOf rest) wanted)
+      (cond (leb least (lengthOf rest) && leb (lengthOf rest) most)
+      (cond (ltb (length rest) (3 + lengthOf rest)) (Some EndsInside) None)
+      (Some WrongLength))
+      (Some OutOfOrder))
+      (Some UnknownTag)))
 
   frame-fault : (fault : SheetFault) → FrameFault wanted least most rest fault → frameVerdict ≡ Some fault
   frame-fault EndsInside h = grind (arith, tells)
@@ -88,8 +90,8 @@ module _ (number ready deadline : ℕ) (numberTaken : Bool) (count : ℕ) where
   tableVerdict =
       cond (eqb number 0) (Some (NumberZero number))
       (cond (ltb ready deadline && leb deadline 1024)
-        (cond numberTaken (Some (NumberTaken number)) (cond (leb 256 count) (Some (TableFull number)) None))
-        (Some (NoWindow number)))
+      (cond numberTaken (Some (NumberTaken number)) (cond (leb 256 count) (Some (TableFull number)) None))
+      (Some (NoWindow number)))
 
   table-fault : (fault : TableFault) → RefusedFor number ready deadline numberTaken count fault → tableVerdict ≡ Some fault
   table-fault (NumberZero job) h = grind (arith, tells)

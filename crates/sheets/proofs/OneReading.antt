@@ -33,8 +33,8 @@ module _ (code : ℕ) (sheet : List ℕ) where
   kind-right rest (Table f a) e x = x .cause
   kind-right rest (Sheet f a) e x =
       elim (x .cause) [
-        inl h ↦ frame-right 1 1 1 sheet (lit≤ tt, lit≤ tt) f (code ∷ []) h (record { long = (lit≤ tt, lit≤ tt); after = rest; bytes = e })
-      | inr h ↦ h .1 .2 (ap (λ l. getD l 3 0) (sym (h .1 .1 .bytes) ∙ e))
+        | inl h ↦ frame-right 1 1 1 sheet (lit≤ tt, lit≤ tt) f (code ∷ []) h (record { long = (lit≤ tt, lit≤ tt); after = rest; bytes = e })
+        | inr h ↦ h .1 .2 (ap (λ l. getD l 3 0) (sym (h .1 .1 .bytes) ∙ e))
       ]
 
 module _ {W : Type 0} (code width : ℕ) (encoding : W → List ℕ) (sheet : List ℕ) where
@@ -77,8 +77,8 @@ module _ {W : Type 0} (code width : ℕ) (encoding : W → List ℕ) (sized : (w
       let apart = record-front 3 3 (jobValue encoding j) (jobValue encoding k) (jobRecords encoding js ++ r) (jobRecords encoding ks ++ s) (simp append-assoc at e) in
       let same : k ≡ j = job-same encoding injective k j (sym (apart .1)) in
       let later = jobs-same (before ++ (j ∷ [])) js ks r s (a .1) (subst (λ job. Admitted (before ++ (job ∷ [])) ks) same (b .1))
-          (subst (λ l. Ended l r) (sym (append-assoc before (j ∷ []) js)) x)
-          (subst (λ l. Ended l s) (ap (λ job. before ++ (job ∷ ks)) same ∙ sym (append-assoc before (j ∷ []) ks)) y) (apart .2) in
+      (subst (λ l. Ended l r) (sym (append-assoc before (j ∷ []) js)) x)
+      (subst (λ l. Ended l s) (ap (λ job. before ++ (job ∷ ks)) same ∙ sym (append-assoc before (j ∷ []) ks)) y) (apart .2) in
       let p = later .0 in (cc, later .1)
 
   -- a sheet whose kind and calendar are right: its masks, the jobs that are read, and what is behind them
@@ -132,7 +132,7 @@ module _ {W : Type 0} (code width : ℕ) (encoding : W → List ℕ) (sized : (w
     job-alone f g x y =
         let same = listed-same (x .masks) (y .masks) (x .jobs) (y .jobs) (x .rest) (y .rest) (refused-listed f x) (refused-listed g y) in
         let m = same .0 in let j = same .1 in let r = same .2 in
-        let long : sheetBytes code width encoding (x .masks) (x .jobs) ≡ sheetBytes code width encoding (y .masks) (y .jobs) = cc in
+        let long : sheetBytes code encoding (x .masks) (x .jobs) ≡ sheetBytes code encoding (y .masks) (y .jobs) = cc in
         job-cause-alone code width encoding injective (y .jobs) (y .rest) f g (simp (j, r) at (x .cause)) (y .cause) (x .byte ∙ ap length long ∙ sym (y .byte))
 
     refused-alone : (f g : LoadFault) → Refused code width encoding sheet f → Refused code width encoding sheet g → f ≡ g

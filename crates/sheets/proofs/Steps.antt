@@ -42,9 +42,15 @@ module _ {W : Type 0} (code width : ℕ) (encoding : W → List ℕ) (before : L
     job-framed = subst (λ v. Framed 3 (6 + width) (6 + width) (drop at sheet) v) (sym same) (framed-here value f)
 
     pub table-refused : (fault : TableFault) → RefusedFor (job .number) (job .ready) (job .deadline) b count fault → (at ≡ at) × JobCause code width encoding before (drop at sheet) (Table fault at)
-    table-refused fault h =
-        (refl, (job, job-framed, subst (λ t. RefusedFor (job .number) (job .ready) (job .deadline) t (length before) fault) tells
-          (subst (λ k. RefusedFor (job .number) (job .ready) (job .deadline) b k fault) (sym few) h)))
+    table-refused fault h = (
+      refl,
+      (
+        job,
+        job-framed,
+        subst (λ t. RefusedFor (job .number) (job .ready) (job .deadline) t (length before) fault) tells
+            (subst (λ k. RefusedFor (job .number) (job .ready) (job .deadline) b k fault) (sym few) h),
+      ),
+    )
 
     pub job-read : at < length sheet → Admissible (job .number) (job .ready) (job .deadline) b count → JobRead code width encoding before sheet at (at + 3 + length value)
     job-read inside h =
@@ -53,13 +59,13 @@ module _ {W : Type 0} (code width : ℕ) (encoding : W → List ℕ) (before : L
         let whole : length (drop at sheet) ≡ length (recordBytes 3 value) + length (g .after) = ap length (g .bytes) ∙ length-append (recordBytes 3 value) (g .after) in
         let left : length (drop at sheet) ≡ length sheet - at = length-drop at sheet in
         let behind : drop (at + 3 + length value) sheet ≡ g .after =
-            ap (λ k. drop k sheet) (omega arith) ∙ sym (drop-drop (3 + length value) at sheet) ∙ ap (drop (3 + length value)) (g .bytes) ∙ drop-at (recordBytes 3 value) (g .after) (3 + length value) long in
+        ap (λ k. drop k sheet) (omega arith) ∙ sym (drop-drop (3 + length value) at sheet) ∙ ap (drop (3 + length value)) (g .bytes) ∙ drop-at (recordBytes 3 value) (g .after) (3 + length value) long in
         record {
           job = job;
           bytes = g .bytes ∙ ap (λ v. recordBytes 3 v ++ g .after) (sym same) ∙ ap (λ rest. recordBytes 3 (jobValue encoding job) ++ rest) (sym behind);
           within = (omega arith, omega arith);
           admissible = subst (λ t. Admissible (job .number) (job .ready) (job .deadline) t (length before)) tells
-            (subst (λ k. Admissible (job .number) (job .ready) (job .deadline) b k) (sym few) h);
+              (subst (λ k. Admissible (job .number) (job .ready) (job .deadline) b k) (sym few) h);
         }
 
 module _ {W : Type 0} where
@@ -68,9 +74,11 @@ module _ {W : Type 0} where
       → Admissible (job .number) (job .ready) (job .deadline) (taken (job .number) (before ++ jobs)) (length (before ++ jobs)) → Admitted before (jobs ++ (job ∷ []))
   admitted-more before [] job a h =
       (subst (λ l. Admissible (job .number) (job .ready) (job .deadline) (taken (job .number) l) (length l)) (append-nil before) h, tt)
-  admitted-more before (first ∷ jobs) job a h =
-      (a .0, admitted-more (before ++ (first ∷ [])) jobs job (a .1)
-        (subst (λ l. Admissible (job .number) (job .ready) (job .deadline) (taken (job .number) l) (length l)) (sym (append-assoc before (first ∷ []) jobs)) h))
+  admitted-more before (first ∷ jobs) job a h = (
+    a .0,
+    admitted-more (before ++ (first ∷ [])) jobs job (a .1)
+        (subst (λ l. Admissible (job .number) (job .ready) (job .deadline) (taken (job .number) l) (length l)) (sym (append-assoc before (first ∷ []) jobs)) h),
+  )
 
 module _ {W : Type 0} (code width : ℕ) (encoding : W → List ℕ) where
   pub records-more : (jobs : List (Job W)) (job : Job W) → jobRecords encoding (jobs ++ (job ∷ [])) ≡ jobRecords encoding jobs ++ recordBytes 3 (jobValue encoding job)
@@ -86,10 +94,10 @@ module _ {W : Type 0} (code width : ℕ) (encoding : W → List ℕ) where
       let left : length (drop first sheet) ≡ length sheet - first = length-drop first sheet in
       let front-long : length front ≡ at - first = ap length (sym (r .bytes)) ∙ length-take-le (at - first) (drop first sheet) (omega arith) in
       let there : length sheet - at ≡ length one + (length sheet - next) =
-          sym (length-drop at sheet) ∙ ap length (s .bytes) ∙ length-append one (drop next sheet) ∙ ap (λ k. length one + k) (length-drop next sheet) in
+      sym (length-drop at sheet) ∙ ap length (s .bytes) ∙ length-append one (drop next sheet) ∙ ap (λ k. length one + k) (length-drop next sheet) in
       let rest : drop (at - first) (drop first sheet) ≡ drop at sheet = drop-drop (at - first) first sheet ∙ ap (λ k. drop k sheet) (omega arith) in
       let whole : drop first sheet ≡ (front ++ one) ++ drop next sheet =
-          sym (take-append-drop (at - first) (drop first sheet)) ∙ ap (λ l. l ++ drop (at - first) (drop first sheet)) (r .bytes) ∙ ap (λ l. front ++ l) (rest ∙ s .bytes) ∙ sym (append-assoc front one (drop next sheet)) in
+      sym (take-append-drop (at - first) (drop first sheet)) ∙ ap (λ l. l ++ drop (at - first) (drop first sheet)) (r .bytes) ∙ ap (λ l. front ++ l) (rest ∙ s .bytes) ∙ sym (append-assoc front one (drop next sheet)) in
       let long : length (front ++ one) ≡ next - first = length-append front one ∙ omega arith in
       record {
         jobs = r .jobs ++ (s .job ∷ []);
@@ -104,5 +112,5 @@ module _ {W : Type 0} (code width : ℕ) (encoding : W → List ℕ) where
       → JobCause code width encoding (r .jobs) (drop at sheet) fault → JobsRefused code width encoding sheet first fault
   jobs-refused sheet first at count fault r h e cause =
       let read : JobsRead code width encoding sheet first (loadFaultByte fault) count =
-          record { jobs = r .jobs; bytes = ap (λ k. take (k - first) (drop first sheet)) e ∙ r .bytes; number = r .number; table = r .table; within = (omega arith, omega arith) } in
+      record { jobs = r .jobs; bytes = ap (λ k. take (k - first) (drop first sheet)) e ∙ r .bytes; number = r .number; table = r .table; within = (omega arith, omega arith) } in
       record { count = count; read = read; more = omega arith; cause = subst (λ k. JobCause code width encoding (r .jobs) (drop k sheet) fault) (sym e) cause }

@@ -30,12 +30,12 @@ module _ (code : ℕ) (sheet : List ℕ) (kind : Framed 1 1 1 sheet (code ∷ []
   begun : (masks : List ℕ) → Framed 2 0 1024 (take (length sheet - 4) (drop 4 sheet)) masks → Begun code sheet masks
   begun masks f =
       let whole : sheet ≡ kindRecord code ++ (recordBytes 2 masks ++ f .after) =
-          kind .bytes ∙ ap (λ l. kindRecord code ++ l) (sym behind-kind ∙ f .bytes) in
+      kind .bytes ∙ ap (λ l. kindRecord code ++ l) (sym behind-kind ∙ f .bytes) in
       let long : length sheet ≡ 4 + (3 + length masks + length (f .after)) =
-          omega (arith, ap length whole, length-append masks (f .after)) in
+      omega (arith, ap length whole, length-append masks (f .after)) in
       let behind : drop (7 + length masks) sheet ≡ f .after =
-          ap (λ k. drop k sheet) (omega arith) ∙ sym (drop-drop (3 + length masks) 4 sheet) ∙ ap (λ l. drop (3 + length masks) (drop 4 l)) whole
-          ∙ drop-at (recordBytes 2 masks) (f .after) (3 + length masks) (omega arith) in
+      ap (λ k. drop k sheet) (omega arith) ∙ sym (drop-drop (3 + length masks) 4 sheet) ∙ ap (λ l. drop (3 + length masks) (drop 4 l)) whole
+      ∙ drop-at (recordBytes 2 masks) (f .after) (3 + length masks) (omega arith) in
       record {
         bytes = whole ∙ ap (λ l. kindRecord code ++ (recordBytes 2 masks ++ l)) (sym behind);
         fits = omega arith;
@@ -80,7 +80,7 @@ module _ {W : Type 0} (code width : ℕ) (encoding : W → List ℕ) (sheet mask
       let long : length records ≡ at - first = ap length (sym (r .read .bytes)) ∙ length-take-le (at - first) (drop first sheet) (omega (arith, r .read .within)) in
       let there : drop (at - first) (drop first sheet) ≡ rest = drop-drop (at - first) first sheet ∙ ap (λ k. drop k sheet) (omega (arith, r .read .within)) in
       let tail : drop first sheet ≡ records ++ rest =
-          sym (take-append-drop (at - first) (drop first sheet)) ∙ ap (λ l. l ++ drop (at - first) (drop first sheet)) (r .read .bytes) ∙ ap (λ l. records ++ l) there in
+      sym (take-append-drop (at - first) (drop first sheet)) ∙ ap (λ l. l ++ drop (at - first) (drop first sheet)) (r .read .bytes) ∙ ap (λ l. records ++ l) there in
       inr (inr (record {
         masks = masks;
         jobs = r .read .jobs;

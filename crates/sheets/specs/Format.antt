@@ -1,19 +1,21 @@
--- The format of a job sheet. Assumes nothing.
---   two n                      a number in two bytes, the high byte first
---   recordBytes tag value      a record: its tag, the length of its value in two bytes, its value
---   jobValue job               number, ready slot and deadline in two bytes each, then the weight
---   jobRecords jobs            the records of some jobs, one after the other
---   sheetBytes masks jobs      a sheet: kind, calendar, jobs
---   nth xs k                   the k-th of some things, counted from 0
---   JobAt                      the job whose value stands in the k-th of some records
---   taken number jobs          whether one of the jobs has the number
---   Admitted before jobs       a table that holds the jobs `before` takes these too, one after the other
---   Known, tagOf, lengthOf     the header of the record at the front of some bytes
---   FrameFault                 the first cause against a record's frame
---   Framed                     a record whose frame is right
---   JobCause                   the first cause against a job's record
---   Accepted                   a sheet that is read, with its masks and the bytes of its job records
---   Refused                    a sheet that is refused, with its first fault
+-- The format of a job sheet, and when it is read or refused. Assumes nothing.
+--   two n                          a number in two bytes, the high byte first
+--   recordBytes tag value          a record: its tag, the length of its value in two bytes, its value
+--   kindRecord code                the record of a kind's code
+--   jobValue encoding job          number, ready slot and deadline in two bytes each, then the weight
+--   jobRecords encoding jobs       the records of some jobs, one after the other
+--   sheetBytes code encoding ..    a sheet: kind, calendar, jobs
+--   taken number jobs              whether one of the jobs has the number
+--   Admitted before jobs           a table that holds the jobs `before` takes these too, one after the other
+--   tagOf, lengthOf, Known         the header of the record at the front of some bytes
+--   FrameFault                     the first cause against a record's frame
+--   Framed                         a record whose frame is right
+--   KindCause, CalendarCause       the first cause against the kind record, and against the calendar record
+--   JobCause                       the first cause against a job's record
+--   Accepted                       a sheet that is read, with its masks and the bytes of its job records
+--   Refused                        a sheet that is refused, with its first fault: at its kind, its calendar or a job
+--   nth xs k                       the k-th of some things, counted from 0
+--   JobAt                          the job whose value stands in the k-th of some records
 use mathlib.Core.Path.{_≡_}
 use mathlib.Core.List.{List, [], _∷_, _++_}
 use mathlib.Core.Bool.{Bool, true, false, _||_}
@@ -36,6 +38,31 @@ two n = (n / 256) ∷ (n % 256) ∷ []
 
 abbrev pub recordBytes : ℕ → List ℕ → List ℕ
 recordBytes tag value = tag ∷ (two (length value) ++ value)
+
+abbrev pub kindRecord : ℕ → List ℕ
+kindRecord code = recordBytes 1 (code ∷ [])
+
+-- a kind of weight stands here by the bytes of its weights
+module _ {W : Type 0} (encoding : W → List ℕ) where
+  abbrev pub jobValue : Job W → List ℕ
+  jobValue job = two (job .number) ++ (two (job .ready) ++ (two (job .deadline) ++ encoding (job .weight)))
+
+  abbrev pub jobRecords : List (Job W) → List ℕ
+  jobRecords [] = []
+  jobRecords (job ∷ jobs) = recordBytes 3 (jobValue job) ++ jobRecords jobs
+
+-- and by its code
+abbrev pub sheetBytes : {W : Type 0} → ℕ → (W → List ℕ) → List ℕ → List (Job W) → List ℕ
+sheetBytes code encoding masks jobs = kindRecord code ++ (recordBytes 2 masks ++ jobRecords encoding jobs)
+
+module _ {W : Type 0} where
+  abbrev pub taken : ℕ → List (Job W) → Bool
+  taken number [] = false
+  taken number (job ∷ jobs) = eqb (job .number) number || taken number jobs
+
+  abbrev pub Admitted : List (Job W) → List (Job W) → Type 0
+  Admitted before [] = Unit {0}
+  Admitted before (job ∷ jobs) = Admissible (job .number) (job .ready) (job .deadline) (taken (job .number) before) (length before) × Admitted (before ++ (job ∷ [])) jobs
 
 -- what the header of the record at the front of `rest` says
 abbrev pub tagOf : List ℕ → ℕ
@@ -74,46 +101,13 @@ abbrev pub CalendarCause : List ℕ → LoadFault → Type 0
 CalendarCause rest (Sheet fault byte) = FrameFault 2 0 1024 rest fault
 CalendarCause rest (Table fault byte) = ⊥
 
-abbrev pub kindRecord : ℕ → List ℕ
-kindRecord code = recordBytes 1 (code ∷ [])
-
 -- a sheet refused at its kind record, which is the first
 pub record KindRefused (Right : ℕ → Type 0) (sheet : List ℕ) (fault : LoadFault) : Type 0 where
   pub byte : loadFaultByte fault ≡ 0
   pub cause : KindCause Right sheet fault
 
-abbrev pub nth : {A : Type 0} → List A → ℕ → Option A
-nth [] k = None
-nth (x ∷ xs) zero = Some x
-nth (x ∷ xs) (suc k) = nth xs k
-
-module _ {W : Type 0} where
-  abbrev pub taken : ℕ → List (Job W) → Bool
-  taken number [] = false
-  taken number (job ∷ jobs) = eqb (job .number) number || taken number jobs
-
-  abbrev pub Admitted : List (Job W) → List (Job W) → Type 0
-  Admitted before [] = Unit {0}
-  Admitted before (job ∷ jobs) = Admissible (job .number) (job .ready) (job .deadline) (taken (job .number) before) (length before) × Admitted (before ++ (job ∷ [])) jobs
-
--- a kind of weight stands here by the bytes of its weights
-module _ {W : Type 0} (encoding : W → List ℕ) where
-  abbrev pub jobValue : Job W → List ℕ
-  jobValue job = two (job .number) ++ (two (job .ready) ++ (two (job .deadline) ++ encoding (job .weight)))
-
-  abbrev pub jobRecords : List (Job W) → List ℕ
-  jobRecords [] = []
-  jobRecords (job ∷ jobs) = recordBytes 3 (jobValue job) ++ jobRecords jobs
-
-  -- the value of the k-th record, where each has `size` bytes and three of them are its header, is the job's
-  abbrev pub JobAt : (size : ℕ) → List ℕ → ℕ → Job W → Type 0
-  JobAt size records k job = (k * size + size ≤ length records) × (jobValue job ≡ take (size - 3) (drop (k * size + 3) records))
-
--- and by its code and the width of its weights
+-- a kind of weight stands here by its code, the width of its weights and their bytes
 module _ {W : Type 0} (code width : ℕ) (encoding : W → List ℕ) where
-  abbrev pub sheetBytes : List ℕ → List (Job W) → List ℕ
-  sheetBytes masks jobs = kindRecord code ++ (recordBytes 2 masks ++ jobRecords encoding jobs)
-
   -- after the frame, the weight; then what the table, with the jobs before it, has against the job
   abbrev pub JobCause : List (Job W) → List ℕ → LoadFault → Type 0
   JobCause before rest (Sheet fault byte) = FrameFault 3 (6 + width) (6 + width) rest fault
@@ -124,7 +118,7 @@ module _ {W : Type 0} (code width : ℕ) (encoding : W → List ℕ) where
   -- the sheet is read: its masks, and the bytes of its job records
   pub record Accepted (sheet masks records : List ℕ) (count : ℕ) : Type 0 where
     pub jobs : List (Job W)
-    pub bytes : sheet ≡ sheetBytes masks jobs
+    pub bytes : sheet ≡ sheetBytes code encoding masks jobs
     pub listed : records ≡ jobRecords encoding jobs
     pub number : length jobs ≡ count
     pub few : length masks ≤ 1024
@@ -141,12 +135,21 @@ module _ {W : Type 0} (code width : ℕ) (encoding : W → List ℕ) where
     pub masks : List ℕ
     pub jobs : List (Job W)
     pub rest : List ℕ
-    pub bytes : sheet ≡ sheetBytes masks jobs ++ rest
+    pub bytes : sheet ≡ sheetBytes code encoding masks jobs ++ rest
     pub few : length masks ≤ 1024
     pub table : Admitted [] jobs
     pub more : 0 < length rest
-    pub byte : loadFaultByte fault ≡ length (sheetBytes masks jobs)
+    pub byte : loadFaultByte fault ≡ length (sheetBytes code encoding masks jobs)
     pub cause : JobCause jobs rest fault
 
   abbrev pub Refused : List ℕ → LoadFault → Type 0
   Refused sheet fault = KindRefused (λ other. other ≡ code) sheet fault ⊎ (CalendarRefused sheet fault ⊎ JobRefused sheet fault)
+
+abbrev pub nth : {A : Type 0} → List A → ℕ → Option A
+nth [] k = None
+nth (x ∷ xs) zero = Some x
+nth (x ∷ xs) (suc k) = nth xs k
+
+-- the value of the k-th record, where each has `size` bytes and three of them are its header, is the job's
+abbrev pub JobAt : {W : Type 0} → (W → List ℕ) → (size : ℕ) → List ℕ → ℕ → Job W → Type 0
+JobAt encoding size records k job = (k * size + size ≤ length records) × (jobValue encoding job ≡ take (size - 3) (drop (k * size + 3) records))

@@ -1,7 +1,6 @@
 // Why a sheet is refused: by the reader, or by the table that takes its jobs.
 ghost use mathlib.Core.Path.{_≡_};
 ghost use Rattle.sheets.specs.Faults.{sheetFaultNumber, loadFaultNumber, loadFaultByte, loadFaultJob};
-
 use jobs::terms::TableFault;
 use jobs::terms::TableFaultDebug;
 use jobs::terms::TableFaultEq;

@@ -8,7 +8,6 @@ ghost use Rattle.std.specs.Results.{Cases};
 ghost use mathlib.Core.List.{List};
 ghost use Rattle.jobs.specs.declared.terms.Job.{Job};
 ghost use Rattle.sheets.specs.Format.{jobValue, jobRecords, taken, JobAt};
-
 use jobs::terms::Job;
 use weights::fault::WeightFault;
 use weights::kind::OrderedWeight;

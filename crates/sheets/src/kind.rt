@@ -5,7 +5,6 @@ ghost use Prim.Native.Nat.{ℕ};
 ghost use Rattle.std.specs.Results.{Cases};
 ghost use Rattle.sheets.specs.Format.{kindRecord, Framed, FrameFault, KindRefused};
 ghost use Rattle.sheets.specs.Kinds.{kindCode, Offered};
-
 use crate::fault::LoadFault;
 use crate::fault::SheetFault;
 use crate::record::record_value;

@@ -1,5 +1,6 @@
 // Job sheets: their records, the reader and its faults.
 pub mod fault;
+pub mod front;
 mod job_record;
 pub mod kind;
 pub mod reader;

@@ -8,7 +8,6 @@ ghost use Rattle.jobs.specs.declared.terms.Job.{Job};
 ghost use Rattle.sheets.specs.Format.{jobRecords, Accepted, Refused};
 ghost use Rattle.sheets.specs.Reading.{OneReading};
 ghost use Rattle.sheets.specs.Steps.{JobAnswer, JobsRead, JobsRefused};
-
 use crate::fault::LoadFault;
 use crate::fault::SheetFault;
 use crate::job_record::job_of;
@@ -22,7 +21,12 @@ use weights::kind::OrderedWeight;
 
 // The job record at byte `at`, where the records from byte `first` up to there hold the `count` jobs already in the table:
 // the byte behind it, or the first cause against it.
-fn check_job<W: OrderedWeight>(sheet: &[u8], first: usize, at: usize, count: usize) -> Result<usize, LoadFault>
+fn check_job<W: OrderedWeight>(
+    sheet: &[u8],
+    first: usize,
+    at: usize,
+    count: usize,
+) -> Result<usize, LoadFault>
     requires { ⌜ first ≤ at ⌝ ∗ ⌜ at < length (now sheet) ⌝ }
     ensures { λ r. ⌜ ((before : List (Job W)) → take (at - first) (drop first (now (sheet .entry))) ≡ jobRecords (W·OrderedWeight .encoding) before → length before ≡ count → JobAnswer (W·OrderedWeight .code) (W·OrderedWeight .width) (W·OrderedWeight .encoding) before (now (sheet .entry)) at r) ⌝ }
 {

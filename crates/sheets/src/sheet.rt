@@ -5,7 +5,6 @@ ghost use Prim.Native.Nat.{_+_};
 ghost use Rattle.std.specs.Options.{Cases as BySome};
 ghost use Rattle.jobs.specs.declared.terms.Job.{Job};
 ghost use Rattle.sheets.specs.Format.{jobRecords, nth, JobAt};
-
 use crate::job_record::job_at;
 use jobs::terms::Job;
 use std::marker::PhantomData;

@@ -10,16 +10,17 @@ ghost use Rattle.std.specs.Iters.{folded};
 ghost use Rattle.std.specs.Options.{Cases as BySome};
 ghost use Rattle.std.specs.Results.{Cases};
 ghost use Rattle.weights.specs.Kind.{Octets, Agrees};
-
 use crate::fault::WeightFault;
 
 // A kind of weight. Its meaning is the relation 'no lighter' and the bytes of each weight.
 pub trait OrderedWeight: Copy {
     const CODE: u8;
+
     const WIDTH: usize;
 
     // What the two constants are: a clause cannot cite a constant of a trait.
     ghost code: { ℕ };
+
     ghost width: { ℕ };
 
     // `noLighter a b`: a is at least as heavy as b. Two different weights may each be so.

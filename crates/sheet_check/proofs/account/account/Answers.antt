@@ -28,5 +28,5 @@ returns g c =
       order = c .in-Continue-ranked .ensures tt .0;
       all = c .in-Continue-ranked .ensures tt .1;
       bytes = lines-all line head items (string-bytes (c .loop-job .text)) (c .loop-job .job-index) (c .loop-job .inv) (omega arith)
-        ∙ ap (λ l. head ++ joined line l) (c .as-slice-job-items .ensures .value) ∙ ap (λ l. l ++ joined line (vec-items ranked)) (c .in-Continue-text .ensures tt);
+          ∙ ap (λ l. head ++ joined line l) (c .as-slice-job-items .ensures .value) ∙ ap (λ l. l ++ joined line (vec-items ranked)) (c .in-Continue-text .ensures tt);
     }

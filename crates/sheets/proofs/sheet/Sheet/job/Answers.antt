@@ -13,5 +13,5 @@ returns g c =
     record {
       value = c .job-at .ensures;
       listed = λ jobs e. nth-at (w .encoding) (w .width) (laws .sized) (laws .injective) jobs (c .args .k) (c .job-at .result)
-        (subst (λ l. BySome (c .job-at .result) ((job : _) → JobAt (w .encoding) (9 + w .width) l (c .args .k) job → ⊥) (λ job. JobAt (w .encoding) (9 + w .width) l (c .args .k) job)) e (c .job-at .ensures));
+          (subst (λ l. BySome (c .job-at .result) ((job : _) → JobAt (w .encoding) (9 + w .width) l (c .args .k) job → ⊥) (λ job. JobAt (w .encoding) (9 + w .width) l (c .args .k) job)) e (c .job-at .ensures));
     }
