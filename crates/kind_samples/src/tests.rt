@@ -88,6 +88,18 @@ fn ranks() -> Result<(), Fail> {
             before,
         )?;
     }
+    Ok(())
+}
+
+// A row of each kind whose first is the heaviest and whose other two weigh the same.
+#[test]
+fn rows() -> Result<(), Fail> {
+    let points = [Points::new(9)?, Points::new(7)?, Points::new(7)?];
+    let classed = [
+        Classed::new(1, 1)?,
+        Classed::new(0, 9)?,
+        Classed::new(0, 9)?,
+    ];
     let shares = [Share::new(2, 3)?, Share::new(2, 4)?, Share::new(1, 2)?];
     for (numbers, n, ordered) in [
         ([4, 1, 2], 3, true),
@@ -95,6 +107,8 @@ fn ranks() -> Result<(), Fail> {
         ([4, 2, 1], 2, true),
         ([4, 1, 2], 4, false),
     ] {
+        check_eq(in_rank_order(&numbers, &points, n), ordered)?;
+        check_eq(in_rank_order(&numbers, &classed, n), ordered)?;
         check_eq(in_rank_order(&numbers, &shares, n), ordered)?;
     }
     Ok(())
@@ -126,6 +140,7 @@ fn totals() -> Result<(), Fail> {
     let row = [many, Points::new(7)?, many];
     let total = total_of(&row, &[true, false, true], 3).ok_or("counted")?;
     check_eq(total.sum(), 8589934590)?;
+    check_eq(adds_at_least(total, &row[1], &many), Some(false))?;
     check(total_of(&row, &[true, false, true], 4).is_none())?;
     let one = Classed::new(3, 1)?;
     let most = Classed::new(2, 65535)?;
