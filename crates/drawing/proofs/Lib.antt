@@ -1,0 +1,10 @@
+pub mod Walk
+pub mod Slots
+pub mod Carrying
+pub mod Tried
+pub mod InTurn
+pub mod Places
+pub mod Seating
+pub mod Renumber
+pub mod Links
+pub mod Checked

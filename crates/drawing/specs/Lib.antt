@@ -1,0 +1,5 @@
+pub mod Draw
+pub mod Slots
+pub mod Walk
+pub mod Trial
+pub mod Seats
