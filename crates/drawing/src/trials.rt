@@ -37,15 +37,15 @@ fn probe(rows: &[Row], counts: &[u16], places: &[u16], x: usize) -> Option<usize
     requires early { ⌜ row (now rows) x .ready ≤ 1024 ⌝ }
     ensures cases { λ r. ⌜ BySome r ((e : ℕ) × FailsIn (now (rows .entry)) (now (counts .entry)) (now (places .entry)) x e) (λ e. SucceedsIn (now (rows .entry)) (now (counts .entry)) (now (places .entry)) x e) ⌝ }
 {
-    let mut c = x;
+    let mut carried = x;
     let mut p = counts[rows[x].ready as usize] as usize;
-    while p < counts[rows[c].deadline as usize] as usize {
-        let o = places[p] as usize;
-        if o >= rows.len() {
+    while p < counts[rows[carried].deadline as usize] as usize {
+        let sitting = places[p] as usize;
+        if sitting >= rows.len() {
             return Some(p);
         }
-        if served_first(rows, c, o) {
-            c = o;
+        if served_first(rows, carried, sitting) {
+            carried = sitting;
         }
         p += 1;
     }
@@ -60,19 +60,19 @@ fn settle(rows: &[Row], counts: &[u16], places: &mut [u16], x: usize, e: usize)
     requires within { ⌜ x < length (now rows) ⌝ }
     requires early { ⌜ row (now rows) x .ready ≤ 1024 ⌝ }
     requires succeeds { ⌜ SucceedsIn (now rows) (now counts) (now places) x e ⌝ }
-    ensures front { λ _. ⌜ ((q : ℕ) → q < e → getD (now (places .exit)) q 0 ≡ settledIn (now (rows .entry)) (now (counts .entry)) (now (places .entry)) x q) ⌝ }
-    ensures here { λ _. ⌜ getD (now (places .exit)) e 0 ≡ carriedIn (now (rows .entry)) (now (counts .entry)) (now (places .entry)) x e ⌝ }
-    ensures back { λ _. ⌜ ((q : ℕ) → e < q → getD (now (places .exit)) q 0 ≡ getD (now (places .entry)) q 0) ⌝ }
+    ensures made { λ _. ⌜ ((q : ℕ) → q < e → getD (now (places .exit)) q 0 ≡ settledIn (now (rows .entry)) (now (counts .entry)) (now (places .entry)) x q) ⌝ }
+    ensures leaves { λ _. ⌜ getD (now (places .exit)) e 0 ≡ carriedIn (now (rows .entry)) (now (counts .entry)) (now (places .entry)) x e ⌝ }
+    ensures same { λ _. ⌜ ((q : ℕ) → e < q → getD (now (places .exit)) q 0 ≡ getD (now (places .entry)) q 0) ⌝ }
 {
-    let mut c = x;
+    let mut carried = x;
     for p in counts[rows[x].ready as usize] as usize..e {
-        let o = places[p] as usize;
-        if served_first(rows, c, o) {
-            places[p] = c as u16;
-            c = o;
+        let sitting = places[p] as usize;
+        if served_first(rows, carried, sitting) {
+            places[p] = carried as u16;
+            carried = sitting;
         }
     }
-    places[e] = c as u16;
+    places[e] = carried as u16;
 }
 
 // Keeps row x, and deals the places anew, if it has a place beside the rows that are seated; else leaves all as it is.

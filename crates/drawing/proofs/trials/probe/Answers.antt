@@ -11,36 +11,36 @@ loop-p-holds c = carrying-start (c .args .rows .now) (c .args .counts .now) (c .
 pub index-places-p : need.index-places-p
 index-places-p c =
     let b = carrying-below (c .args .rows .now) (c .args .counts .now) (c .args .places .now) (c .args .x) (c .pre .drawable) (c .pre .numbered) (c .pre .within) (c .pre .early)
-    (c .loop-p .p) (c .loop-p .c) (c .loop-p .inv) (c .loop-p-test .taken) in
+    (c .loop-p .p) (c .loop-p .carried) (c .loop-p .inv) (c .loop-p-test .taken) in
     omega arith
 
-pub returns-then-o-rows : need.returns-then-o-rows
-returns-then-o-rows c = record {
+pub returns-then-sitting-rows : need.returns-then-sitting-rows
+returns-then-sitting-rows c = record {
   cases = carrying-succeeds (c .args .rows .now) (c .args .counts .now) (c .args .places .now) (c .args .x) (c .pre .drawable) (c .pre .numbered) (c .pre .within) (c .pre .early)
-      (c .loop-p .p) (c .loop-p .c) (c .loop-p .inv) (c .loop-p-test .taken) (c .if-o-rows .taken);
+      (c .loop-p .p) (c .loop-p .carried) (c .loop-p .inv) (c .loop-p-test .taken) (c .if-sitting-rows .taken);
 }
 
 pub loop-p-less : need.loop-p-less
 loop-p-less c =
     let b = carrying-below (c .args .rows .now) (c .args .counts .now) (c .args .places .now) (c .args .x) (c .pre .drawable) (c .pre .numbered) (c .pre .within) (c .pre .early)
-    (c .loop-p .p) (c .loop-p .c) (c .loop-p .inv) (c .loop-p-test .taken) in
+    (c .loop-p .p) (c .loop-p .carried) (c .loop-p .inv) (c .loop-p-test .taken) in
     omega arith
 
 pub loop-p-again : need.loop-p-again
 loop-p-again c =
     let b = carrying-below (c .args .rows .now) (c .args .counts .now) (c .args .places .now) (c .args .x) (c .pre .drawable) (c .pre .numbered) (c .pre .within) (c .pre .early)
-    (c .loop-p .p) (c .loop-p .c) (c .loop-p .inv) (c .loop-p-test .taken) in
+    (c .loop-p .p) (c .loop-p .carried) (c .loop-p .inv) (c .loop-p-test .taken) in
     let d = carrying-deadline (c .args .rows .now) (c .args .counts .now) (c .args .places .now) (c .args .x) (c .pre .drawable) (c .pre .numbered) (c .pre .within) (c .pre .early)
-    (c .loop-p .p) (c .loop-p .c) (c .loop-p .inv) (c .loop-p-test .taken) in
+    (c .loop-p .p) (c .loop-p .carried) (c .loop-p .inv) (c .loop-p-test .taken) in
     elim (c .if-served-first .came) [
       | then-served-first w ↦
-          subst (λ v. Carrying (c .args .rows .now) (c .args .counts .now) (c .args .places .now) (c .args .x) (c .loop-p .p + 1) v) (sym (w .c-is))
+          subst (λ v. Carrying (c .args .rows .now) (c .args .counts .now) (c .args .places .now) (c .args .x) (c .loop-p .p + 1) v) (sym (w .carried-is))
           (carrying-swap (c .args .rows .now) (c .args .counts .now) (c .args .places .now) (c .args .x) (c .pre .drawable) (c .pre .numbered) (c .pre .within) (c .pre .early)
-          (c .loop-p .p) (c .loop-p .c) (c .loop-p .inv) b (c .if-o-rows .left) d (sym (w .if-served-first .ensures tt .value)) .0)
+          (c .loop-p .p) (c .loop-p .carried) (c .loop-p .inv) b (c .if-sitting-rows .left) d (sym (w .if-served-first .ensures tt .value)) .0)
       | else-served-first w ↦
-          subst (λ v. Carrying (c .args .rows .now) (c .args .counts .now) (c .args .places .now) (c .args .x) (c .loop-p .p + 1) v) (sym (w .c-is))
+          subst (λ v. Carrying (c .args .rows .now) (c .args .counts .now) (c .args .places .now) (c .args .x) (c .loop-p .p + 1) v) (sym (w .carried-is))
           (carrying-keep (c .args .rows .now) (c .args .counts .now) (c .args .places .now) (c .args .x) (c .pre .drawable) (c .pre .numbered) (c .pre .within) (c .pre .early)
-          (c .loop-p .p) (c .loop-p .c) (c .loop-p .inv) b (c .if-o-rows .left) d (sym (w .if-served-first .ensures tt .value)) .0)
+          (c .loop-p .p) (c .loop-p .carried) (c .loop-p .inv) b (c .if-sitting-rows .left) d (sym (w .if-served-first .ensures tt .value)) .0)
     ]
 
 pub returns : need.returns
@@ -48,6 +48,6 @@ returns c = record {
   cases = (
     c .loop-p .p,
     carrying-fails (c .args .rows .now) (c .args .counts .now) (c .args .places .now) (c .args .x) (c .pre .drawable) (c .pre .numbered) (c .pre .within) (c .pre .early)
-        (c .loop-p .p) (c .loop-p .c) (c .loop-p .inv) (c .loop-p-test .left),
+        (c .loop-p .p) (c .loop-p .carried) (c .loop-p .inv) (c .loop-p-test .left),
   );
 }

@@ -25,7 +25,7 @@ loop-p-again c =
     let old = c .args .places .now in
     let x = c .args .x in
     let p = c .loop-p .p in
-    let hand = c .loop-p .c in
+    let hand = c .loop-p .carried in
     let inv = c .loop-p .inv in
     let ends = c .pre .succeeds in
     let pass = ends .2 p (c .loop-p .kept .p) (c .loop-p-test .taken) in
@@ -37,14 +37,14 @@ loop-p-again c =
       | then-served-first w ↦
           let g = carrying-swap rows counts old x (c .pre .drawable) (c .pre .numbered) (c .pre .within) (c .pre .early) p hand (inv .0) inside (pass .0) (pass .1)
           (subst (λ v. order rows hand v ≡ true) same (sym (w .if-served-first .ensures tt .value))) in (
-            subst (λ v. Carrying rows counts old x (p + 1) v) (sym (w .c-is ∙ same)) (g .0),
+            subst (λ v. Carrying rows counts old x (p + 1) v) (sym (w .carried-is ∙ same)) (g .0),
             subst (λ ys. (q : ℕ) → q < p + 1 → getD ys q 0 ≡ settledIn rows counts old x q) (sym (w .places-is)) (stored (settledIn rows counts old x) (c .loop-p .places) p hand long (sym (g .1)) (inv .1)),
             subst (λ ys. (q : ℕ) → p + 1 ≤ q → getD ys q 0 ≡ getD old q 0) (sym (w .places-is)) (beyond (λ q. getD old q 0) (c .loop-p .places) p hand (inv .2)),
           )
       | else-served-first w ↦
           let g = carrying-keep rows counts old x (c .pre .drawable) (c .pre .numbered) (c .pre .within) (c .pre .early) p hand (inv .0) inside (pass .0) (pass .1)
           (subst (λ v. order rows hand v ≡ false) same (sym (w .if-served-first .ensures tt .value))) in (
-            subst (λ v. Carrying rows counts old x (p + 1) v) (sym (w .c-is)) (g .0),
+            subst (λ v. Carrying rows counts old x (p + 1) v) (sym (w .carried-is)) (g .0),
             subst (λ ys. (q : ℕ) → q < p + 1 → getD ys q 0 ≡ settledIn rows counts old x q) (sym (w .places-is)) (below-more _ _ (inv .1) (same ∙ sym (g .1))),
             subst (λ ys. (q : ℕ) → p + 1 ≤ q → getD ys q 0 ≡ getD old q 0) (sym (w .places-is)) (λ q l. inv .2 q (omega arith)),
           )

@@ -7,6 +7,6 @@ use Rattle.drawing.proofs.trials.settle.Given as given
 
 abbrev pub Inv-loop-p : given.InvT-loop-p
 Inv-loop-p l =
-    Carrying (l .rows) (l .counts) (l .entry .places) (l .x) (l .p) (l .c)
+    Carrying (l .rows) (l .counts) (l .entry .places) (l .x) (l .p) (l .carried)
     × ((q : ℕ) → q < l .p → getD (l .places) q 0 ≡ settledIn (l .rows) (l .counts) (l .entry .places) (l .x) q)
     × ((q : ℕ) → l .p ≤ q → getD (l .places) q 0 ≡ getD (l .entry .places) q 0)

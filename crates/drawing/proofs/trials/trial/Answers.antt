@@ -13,7 +13,7 @@ returns-in-Some c =
     let early : row (c .args .rows .now) (c .args .x) .ready ≤ 1024 = omega arith in
     record {
       made = λ kept f _. tried (c .args .rows .now) (c .args .counts .now) (c .args .places .now) (c .args .x) (c .pre .drawable) (c .pre .numbered) (c .pre .within) early kept f
-          (c .settle .last .places) (c .in-Some .e) (c .in-Some .ensures tt .cases) (c .settle .ensures .front) (c .settle .ensures .here) (c .settle .ensures .back);
+          (c .settle .last .places) (c .in-Some .e) (c .in-Some .ensures tt .cases) (c .settle .ensures .made) (c .settle .ensures .leaves) (c .settle .ensures .same);
       refused = λ kept f z. absurd (true≢false z);
       same = λ z. absurd (true≢false z);
     }
