@@ -1,4 +1,6 @@
 // Performs a day of planning from a script on standard input, and prints an account of it.
+#![tactic(auto)]
+
 ghost use Rattle.std.specs.Prelude.{◌≤◌, length, IfOk};
 
 mod day;

@@ -1,4 +1,6 @@
 // Calendars: which links are open in which slot, as a mask of eight bits for each slot.
+#![tactic(auto)]
+
 pub mod calendar;
 pub mod carried_on;
 pub mod closed_stretch;

@@ -1,4 +1,6 @@
 // The argument behind the planner, over indices. No code runs here: each function carries theorems in its contract.
+#![tactic(auto)]
+
 ghost use Rattle.dealing.specs.Boards.{LoadFitsRoom, PlacedOrOverloaded};
 ghost use Rattle.dealing.specs.Choice.{ChoiceExists, ChoiceUnique, KeptArePlaced, DroppedHasFullRun, ReasonedIsLargest, KeepsMost};
 ghost use Rattle.dealing.specs.Counting.{Injection};

@@ -1,4 +1,6 @@
 // The draw: the plan's seats for rows in rank order.
+#![tactic(auto)]
+
 ghost use Rattle.drawing.specs.Draw.{Draws};
 
 use crate::checking::drawable;

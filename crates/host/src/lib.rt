@@ -1,4 +1,6 @@
 // The planner's front door for bytes: a sheet in, its printed plan or the line of its refusal out.
+#![tactic(auto)]
+
 ghost use Rattle.std.specs.Prelude.{◌≡◌, ℕ, ◌≤◌, Bool, List, IfOk};
 ghost use Rattle.host.specs.Texts.{TextAs, SheetText as TextFor, SheetTextOnce, Handed, Answered};
 ghost use Rattle.sheets.specs.declared.kind.Kind.TheVariants.{Points as AsPoints, Classed as AsClassed, Share as AsShare};

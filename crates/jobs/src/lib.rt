@@ -1,4 +1,6 @@
 // Jobs, lists of them and the table that holds them: what a job is, and for what causes a table refuses one.
+#![tactic(auto)]
+
 pub mod admission;
 pub mod list;
 pub mod terms;

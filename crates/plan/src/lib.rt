@@ -1,4 +1,6 @@
 // The planner: a plan of one-slot jobs, the calls that change its table, the questions about it, and the load of a sheet.
+#![tactic(auto)]
+
 mod asking;
 mod changes;
 mod filling;

@@ -1,4 +1,6 @@
 // Reads a job sheet from standard input and prints its plan, or the line `refused N at B`.
+#![tactic(auto)]
+
 ghost use Rattle.std.specs.Prelude.{◌≡◌, ◌≤◌, length, IfOk};
 ghost use Rattle.host.specs.Texts.{SheetText as TextFor};
 

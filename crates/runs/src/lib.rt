@@ -1,4 +1,6 @@
 // Runs of calls on a plan, and the whole promise over them.
+#![tactic(auto)]
+
 ghost use Rattle.std.specs.Prelude.{◌≡◌, min, List, [], length, take, drop, OnErr};
 ghost use Rattle.jobs.specs.declared.terms.Job.{Job};
 ghost use Rattle.calls.specs.Calls.{Outcome, Run, Promised, PromisedTotals};

@@ -1,4 +1,6 @@
 // Reads a job sheet from standard input and prints what it holds, or the line `refused N at B`.
+#![tactic(auto)]
+
 ghost use Rattle.std.specs.Prelude.{◌≡◌, ◌≤◌, length, IfOk};
 
 mod account;

@@ -1,5 +1,7 @@
 // Sample job sheets, and what the reader and the kind question answer on each. The answers are worked out by hand from the rules
 // of the format, record by record.
+#![tactic(auto)]
+
 #[cfg(test)]
 mod answer;
 #[cfg(test)]

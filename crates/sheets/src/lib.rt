@@ -1,4 +1,6 @@
 // Job sheets: their records, the reader and its faults.
+#![tactic(auto)]
+
 pub mod fault;
 pub mod front;
 mod job_record;

@@ -1,4 +1,6 @@
 // The text of a plan and the line of a refusal, put into a lent buffer.
+#![tactic(auto)]
+
 mod fault;
 mod printing;
 mod putting;

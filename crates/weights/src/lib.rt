@@ -1,4 +1,6 @@
 // Weights of jobs: what a kind of weight owes, and what can be said of weights whatever their kind.
+#![tactic(auto)]
+
 pub mod bytes;
 pub mod fault;
 pub mod kind;
