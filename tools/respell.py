@@ -81,11 +81,11 @@ def main():
     any_of = "|".join(re.escape(n) for n in sorted(turned, key=len, reverse=True))
     token = re.compile(rf"(?<!{LETTER})({any_of})(?!{LETTER})")
 
-    def turn(text):
+    def turn(text, steps=False):
         def one(m):
             name, before = m.group(1), text[: m.start()]
             # a step or a goal that the check makes, as c.job-at
-            if "-" in name and re.search(r"(^|[^\w'.])[a-z]\w{0,3}'?\.$", before):
+            if steps and "-" in name and re.search(r"(^|[^\w'.])[a-z]\w{0,3}'?\.$", before):
                 return name
             return turned[name]
 
@@ -100,7 +100,7 @@ def main():
             ghostly = re.compile(r"^\s*(//|ghost |ensures|requires|invariant)|\b(ghost|ensures|requires)\b")
             new = "".join(turn(l) if ghostly.search(l) else l for l in old.splitlines(keepends=True))
         else:
-            new = turn(old)
+            new = turn(old, made(path))
         if new != old:
             changed += 1
             if "--dry" not in sys.argv:

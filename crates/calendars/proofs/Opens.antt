@@ -28,7 +28,7 @@ opens_beyond mask end h (suc more) =
 
 -- from slot 1,024 on a calendar has no open link, so its count stays what it is there
 pub none_left : {X : Type 0} (end : X → ℕ) (mask : X → ℕ → ℕ) → Laws end mask → (c : X) (s : ℕ) → 1024 ≤ s → mask c s ≡ 0
-none_left end mask laws c s h = laws.mask-after c s (omega (arith, laws.end-bound c))
+none_left end mask laws c s h = laws.mask_after c s (omega (arith, laws.end_bound c))
 
 pub opens_all : (mask : ℕ → ℕ) → ((k : ℕ) → 1024 ≤ k → mask k ≡ 0) → (s : ℕ) → 1024 ≤ s → opens mask s ≡ opens mask 1024
 opens_all mask none s h =

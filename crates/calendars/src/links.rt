@@ -6,7 +6,7 @@ use crate::calendar::Calendar;
 
 // The link that is open in the slot and has exactly `k` open links below it; None where the slot has at most `k` open links.
 pub fn kth_open_link<C: Calendar>(c: &C, slot: u16, k: u8) -> Option<u8>
-    ensures cases { MatchOption result (count_ones (mask c.now slot) ≤ k) (λ link. (k < count_ones (mask c.now slot)) × KthOpen (mask c.now slot) k link) }
+    ensures cases { MatchOption result (count_ones (C.mask c.now slot) ≤ k) (λ link. (k < count_ones (C.mask c.now slot)) × KthOpen (C.mask c.now slot) k link) }
 {
     kth_bit(c.mask(slot), k)
 }

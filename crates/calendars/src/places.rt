@@ -6,15 +6,15 @@ use crate::calendar::Calendar;
 
 // How many links are open in the slot: 0 to 8, and 0 from the end on.
 pub fn capacity<C: Calendar>(c: &C, slot: u16) -> u32
-    ensures value { (result ≡ count_ones (mask c.now slot)) × (result ≤ 8) }
+    ensures value { (result ≡ count_ones (C.mask c.now slot)) × (result ≤ 8) }
 {
     c.mask(slot).count_ones()
 }
 
 // How many places are open in the slots below `slot`: from 1,024 on all of them, 8,192 at most.
 pub fn places_before<C: Calendar>(c: &C, slot: u16) -> u16
-    ensures value { (result ≡ opens (mask c.now) slot) × (result ≤ 8192) }
-    ensures same { 1024 ≤ slot → result ≡ opens (mask c.now) 1024 }
+    ensures value { (result ≡ opens (C.mask c.now) slot) × (result ≤ 8192) }
+    ensures same { 1024 ≤ slot → result ≡ opens (C.mask c.now) 1024 }
 {
     let mut count = 0u16;
     for s in 0..slot.min(1024) {
@@ -25,7 +25,7 @@ pub fn places_before<C: Calendar>(c: &C, slot: u16) -> u16
 
 // How many places are open in all: 8,192 at most.
 pub fn open_places<C: Calendar>(c: &C) -> u16
-    ensures value { (result ≡ opens (mask c.now) 1024) × (result ≤ 8192) }
+    ensures value { (result ≡ opens (C.mask c.now) 1024) × (result ≤ 8192) }
 {
     places_before(c, 1024)
 }
@@ -33,7 +33,7 @@ pub fn open_places<C: Calendar>(c: &C) -> u16
 // Fills a lent table of 1,025 entries, so that counts[s] is how many places are open in the slots below s, and answers true.
 // A table of any other length is left as it is, and the answer is false.
 pub fn place_counts<C: Calendar>(c: &C, counts: &mut [u16]) -> bool
-    ensures answers { Counted (mask c.now) counts.old counts.new result }
+    ensures answers { Counted (C.mask c.now) counts.old counts.new result }
 {
     if counts.len() != 1025 {
         return false;

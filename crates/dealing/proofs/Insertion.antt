@@ -66,13 +66,13 @@ module _ (b : Board) (t : Table) (kept : ℕ → Bool) (gr : Greedy b t kept) (x
   top_yes : (i : ℕ) → m ≡ i → also kept m (g m) i ≡ true → Placing b third (adding (also kept m (g m)) i)
   top_yes i z =
       subst (λ k. also kept m (g m) k ≡ true → Placing b third (adding (also kept m (g m)) k)) z
-      (λ e. part b third (adding kept m) (adding (also kept m (g m)) m) (js.has-place m ml (sym (also_top kept m (g m)) ∙ e))
+      (λ e. part b third (adding kept m) (adding (also kept m (g m)) m) (js.has_place m ml (sym (also_top kept m (g m)) ∙ e))
       (λ j jl d. sym (adding_also kept m (g m) m j (omega arith)) ∙ d))
 
   top_no : (i : ℕ) → m ≡ i → also kept m (g m) i ≡ false → Placing b third (adding (also kept m (g m)) i) → ⊥
   top_no i z =
       subst (λ k. also kept m (g m) k ≡ false → Placing b third (adding (also kept m (g m)) k) → ⊥) z
-      (λ e s. js.has-none m ml (sym (also_top kept m (g m)) ∙ e)
+      (λ e s. js.has_none m ml (sym (also_top kept m (g m)) ∙ e)
       (part b third (adding (also kept m (g m)) m) (adding kept m) s (λ j jl d. adding_also kept m (g m) m j (omega arith) ∙ d)))
 
   third_greedy : Greedy b third (also kept m (g m))
@@ -179,8 +179,8 @@ falling : (b : Board) (t : Table) (kept : ℕ → Bool) (x y : ℕ) (g : ℕ →
 falling b t kept x y g js m l e =
     elim (cases_Bool (g m)) [
       | inl z ↦ z
-      | inr z ↦ absurd (js.has-none m (omega arith) z
-          (carry b (then t (suc m) x y) (then t m x y) (adding kept (suc m)) (adding kept m) f (js.has-place (suc m) (omega arith) e)
+      | inr z ↦ absurd (js.has_none m (omega arith) z
+          (carry b (then t (suc m) x y) (then t m x y) (adding kept (suc m)) (adding kept m) f (js.has_place (suc m) (omega arith) e)
           (λ j jl a. elim (f_cases j) [
             | inl w ↦
                 (let k = below_parts kept m j (adding_parts kept m j a (omega arith)) in
