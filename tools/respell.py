@@ -97,8 +97,8 @@ def main():
         if path.endswith(".md"):
             new = re.sub(r"`[^`\n]+`", lambda m: turn(m.group(0)), old)
         elif path.endswith(".rt"):
-            ghostly = re.compile(r"^\s*(//|ghost |ensures|requires|invariant)|\b(ghost|ensures|requires)\b")
-            new = "".join(turn(l) if ghostly.search(l) else l for l in old.splitlines(keepends=True))
+            # code and strings have none of these words: only clauses, ghost members, imports and comments have
+            new = turn(old)
         else:
             new = turn(old, made(path))
         if new != old:

@@ -37,8 +37,8 @@ impl OrderedWeight for Classed {
     ghost octets = { first_of (Prim.search rules, Prim.grind (arith, Self.row.coded.inj)) };
 
     ghost injective = { λ v w e.
-        let parts = classed-parts (classLevel v.class) v.points (classLevel w.class) w.points (omega arith) (omega arith) e in
-        classed-same v w parts.0 parts.1 };
+        let parts = classed_parts (class_level v.class) v.points (class_level w.class) w.points (omega arith) (omega arith) e in
+        classed_same v w parts.0 parts.1 };
 
     fn kind_code() -> u8 {
         Self::CODE

@@ -35,8 +35,8 @@ impl OrderedWeight for Share {
     ghost octets = { first_of (Prim.search rules, Prim.grind (arith, Self.row.coded.inj)) };
 
     ghost injective = { λ s t e.
-        let parts = share-parts s.part s.whole t.part t.whole (omega arith) (omega arith) (omega arith) (omega arith) e in
-        share-same s t parts.0 parts.1 };
+        let parts = share_parts s.part s.whole t.part t.whole (omega arith) (omega arith) (omega arith) (omega arith) e in
+        share_same s t parts.0 parts.1 };
 
     fn kind_code() -> u8 {
         Self::CODE

@@ -8,7 +8,7 @@ returns g c =
     let w = g.W.OrderedWeight in
     let laws = g.met.W.OrderedWeight in
     record {
-      value = c.job-at.ensures;
-      listed = λ jobs e. nth_at w.encoding w.width laws.sized laws.injective jobs c.args.k c.job-at.result
-          (subst (λ l. MatchOption c.job-at.result ((job : _) → JobAt w.encoding (9 + w.width) l c.args.k job → ⊥) (λ job. JobAt w.encoding (9 + w.width) l c.args.k job)) e c.job-at.ensures);
+      value = c.job_at.ensures;
+      listed = λ jobs e. nth_at w.encoding w.width laws.sized laws.injective jobs c.args.k c.job_at.result
+          (subst (λ l. MatchOption c.job_at.result ((job : _) → JobAt w.encoding (9 + w.width) l c.args.k job → ⊥) (λ job. JobAt w.encoding (9 + w.width) l c.args.k job)) e c.job_at.ensures);
     }

@@ -8,8 +8,8 @@ use Rattle.kinds.proofs.classed.weight.ClassedOrderedWeight.read.Goals as goal
 pub returns : goal.returns
 returns c =
     let bs : List ℕ = c.args.bytes.now in
-    let n : ℕ = c.from-be-bytes.result in
-    let back : get_or bs 0 0 ∷ high_first 2 n ≡ bs = classed_read n bs (search rules) (λ i. omega (arith, c.type-inv.bytes i)) c.from-be-bytes.ensures in
+    let n : ℕ = c.from_be_bytes.result in
+    let back : get_or bs 0 0 ∷ high_first 2 n ≡ bs = classed_read n bs (search rules) (λ i. omega (arith, c.type_inv.bytes i)) c.from_be_bytes.ensures in
     MatchResult-weaker c.new.result c.new.ensures
     (λ w e. ap (λ (l : ℕ). l ∷ high_first 2 w.points) e.0 ∙ ap (λ (p : ℕ). get_or bs 0 0 ∷ high_first 2 p) e.1 ∙ back)
     (λ f none w e.

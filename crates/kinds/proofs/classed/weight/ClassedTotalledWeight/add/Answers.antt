@@ -4,11 +4,11 @@ use Rattle.kinds.specs.ClassedFacts.{classed_agrees}
 use Rattle.kinds.specs.Sums.{added_at_set, each32_at}
 use Rattle.kinds.proofs.classed.weight.ClassedTotalledWeight.add.Goals as goal
 
-pub returns-in-err-sum : goal.returns-in-err-sum
-returns-in-err-sum c =
+pub returns-in_err-sum : goal.returns-in_err-sum
+returns-in_err-sum c =
     let five : length c.args.total.sums ≡ 5 = search rules in
     record {
-      value = rw c.from-residual.ensures (λ fits. c.in-err-sum.ensures (each32_at c.args.total.sums (4 - c.level.result) c.args.weight.now.points (omega arith) (rw c.level.ensures fits)));
+      value = rw c.from_residual.ensures (λ fits. c.in_err-sum.ensures (each32_at c.args.total.sums (4 - c.level.result) c.args.weight.now.points (omega arith) (rw c.level.ensures fits)));
       agrees = classed_agrees;
     }
 
@@ -18,6 +18,6 @@ returns c =
     let n : ℕ = c.args.weight.now.points in
     let place : ℕ = 4 - c.level.result in
     record {
-      value = ap (λ (ys : List ℕ). record { sums = ys }) (ap (set xs place) c.in-ok-sum.ensures.1 ∙ sym (added_at_set xs place n) ∙ ap (λ (l : ℕ). added_at xs (4 - l) n) c.level.ensures);
+      value = ap (λ (ys : List ℕ). record { sums = ys }) (ap (set xs place) c.in_ok-sum.ensures.1 ∙ sym (added_at_set xs place n) ∙ ap (λ (l : ℕ). added_at xs (4 - l) n) c.level.ensures);
       agrees = classed_agrees;
     }
