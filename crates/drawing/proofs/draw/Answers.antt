@@ -7,19 +7,19 @@ use Rattle.drawing.proofs.draw.Goals as goal
 pub deal-requires : goal.deal-requires
 deal-requires g c =
     let mask = g.C.Calendar.mask c.args.calendar.now in
-    let counts = c.place-counts.new.counts in
-    let w = counted mask counts c.place-counts.result c.place-counts.ensures.answers in
+    let counts = c.place_counts.new.counts in
+    let w = counted mask counts c.place_counts.result c.place_counts.ensures.answers in
     record {
       drawable = c.drawable.ensures.answers.0 c.if-not-drawable.false;
       numbered = numbered_from mask counts w.0 w.1;
       room = few mask (g.C.Calendar.laws.mask_bound c.args.calendar.now) counts w.0 w.1;
     }
 
-pub read-seats-requires : goal.read-seats-requires
-read-seats-requires g c =
+pub read_seats-requires : goal.read_seats-requires
+read_seats-requires g c =
     let mask = g.C.Calendar.mask c.args.calendar.now in
-    let counts = c.place-counts.new.counts in
-    let w = counted mask counts c.place-counts.result c.place-counts.ensures.answers in
+    let counts = c.place_counts.new.counts in
+    let w = counted mask counts c.place_counts.result c.place_counts.ensures.answers in
     let f = few mask (g.C.Calendar.laws.mask_bound c.args.calendar.now) counts w.0 w.1 in
     record {
       long = w.0;
@@ -31,17 +31,17 @@ read-seats-requires g c =
 pub returns : goal.returns
 returns g c =
     let mask = g.C.Calendar.mask c.args.calendar.now in
-    let counts = c.place-counts.new.counts in
-    let w = counted mask counts c.place-counts.result c.place-counts.ensures.answers in
+    let counts = c.place_counts.new.counts in
+    let w = counted mask counts c.place_counts.result c.place_counts.ensures.answers in
     let chosen = c.deal.ensures.leaves in
     let drawable : Drawable c.args.rows.now = c.drawable.ensures.answers.0 c.if-not-drawable.false in
     let same = c.if-seats-rows.false in
-    let after : length c.read-seats.new.seats ≡ length c.args.rows.now = omega arith in
+    let after : length c.read_seats.new.seats ≡ length c.args.rows.now = omega arith in
     record {
       answers = (
         (drawable, same),
         after,
-        drawn mask (g.C.Calendar.laws.mask_bound c.args.calendar.now) counts w.0 w.1 c.args.rows.now c.deal.new.places c.read-seats.new.seats
-            drawable after chosen.0 chosen.1 chosen.2 c.read-seats.ensures.leaves,
+        drawn mask (g.C.Calendar.laws.mask_bound c.args.calendar.now) counts w.0 w.1 c.args.rows.now c.deal.new.places c.read_seats.new.seats
+            drawable after chosen.0 chosen.1 chosen.2 c.read_seats.ensures.leaves,
       );
     }

@@ -12,8 +12,8 @@ loop-s-init g c =
     seating_none mask c.args.places.now c.unseat.new.seats (get_or c.args.counts.now 0 0)
     (c.requires.counted 0 (omega arith) ∙ opens_none mask) c.unseat.ensures.leaves
 
-pub read-slot-requires : goal.read-slot-requires
-read-slot-requires g c =
+pub read_slot-requires : goal.read_slot-requires
+read_slot-requires g c =
     let mask = g.C.Calendar.mask c.args.calendar.now in
     let counts = c.args.counts.now in
     let s = c.loop-s.s in

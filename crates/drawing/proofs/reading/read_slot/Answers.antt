@@ -5,8 +5,8 @@ use Rattle.drawing.proofs.Seating.{seating_skip, seating_more, seat_here}
 use Rattle.drawing.proofs.reading.read_slot.Goals as goal
 use Rattle.drawing.proofs.reading.read_slot.Goals.{then-row-seats+in-Some, then-row-seats+in-None, else-row-seats}
 
-pub overflow-cast-p : goal.overflow-cast-p
-overflow-cast-p g c =
+pub overflow_cast-p : goal.overflow_cast-p
+overflow_cast-p g c =
     let m = g.C.Calendar.laws.mask_bound c.args.calendar.now c.args.slot in
     let o = ones-le 8 (g.C.Calendar.mask c.args.calendar.now c.args.slot) m in
     omega arith

@@ -3,7 +3,7 @@ use Rattle.drawing.specs.Trial.{order, seat_of, start, settled_in}
 use Rattle.drawing.proofs.Walk.{settled_start}
 use Rattle.drawing.proofs.Carrying.{Carrying, carrying_start, carrying_keep, carrying_swap, stored, beyond}
 use Rattle.drawing.proofs.trials.settle.Goals as goal
-use Rattle.drawing.proofs.trials.settle.Goals.{then-served-first, else-served-first}
+use Rattle.drawing.proofs.trials.settle.Goals.{then-served_first, else-served_first}
 
 pub loop-p-init : goal.loop-p-init
 loop-p-init c = (
@@ -27,17 +27,17 @@ loop-p-preserved c =
     let inside : p < get_or counts 1024 0 = omega arith in
     let long : p < length c.loop-p.places = search rules in
     let same : get_or c.loop-p.places p 0 ≡ get_or old p 0 = inv.2 p (omega arith) in
-    elim c.if-served-first.branch [
-      | then-served-first w ↦
+    elim c.if-served_first.branch [
+      | then-served_first w ↦
           let g = carrying_swap rows counts old x c.requires.drawable c.requires.numbered c.requires.within c.requires.early p hand inv.0 inside pass.0 pass.1
-          (subst (λ v. order rows hand v ≡ true) same (sym w.if-served-first.ensures.value)) in (
+          (subst (λ v. order rows hand v ≡ true) same (sym w.if-served_first.ensures.value)) in (
             subst (λ v. Carrying rows counts old x (p + 1) v) (sym (w.carried-is ∙ same)) g.0,
             subst (λ ys. (q : ℕ) → q < p + 1 → get_or ys q 0 ≡ settled_in rows counts old x q) (sym w.places-is) (stored (settled_in rows counts old x) c.loop-p.places p hand long (sym g.1) inv.1),
             subst (λ ys. (q : ℕ) → p + 1 ≤ q → get_or ys q 0 ≡ get_or old q 0) (sym w.places-is) (beyond (λ q. get_or old q 0) c.loop-p.places p hand inv.2),
           )
-      | else-served-first w ↦
+      | else-served_first w ↦
           let g = carrying_keep rows counts old x c.requires.drawable c.requires.numbered c.requires.within c.requires.early p hand inv.0 inside pass.0 pass.1
-          (subst (λ v. order rows hand v ≡ false) same (sym w.if-served-first.ensures.value)) in (
+          (subst (λ v. order rows hand v ≡ false) same (sym w.if-served_first.ensures.value)) in (
             subst (λ v. Carrying rows counts old x (p + 1) v) (sym w.carried-is) g.0,
             subst (λ ys. (q : ℕ) → q < p + 1 → get_or ys q 0 ≡ settled_in rows counts old x q) (sym w.places-is) (below_more _ _ inv.1 (same ∙ sym g.1)),
             subst (λ ys. (q : ℕ) → p + 1 ≤ q → get_or ys q 0 ≡ get_or old q 0) (sym w.places-is) (λ q l. inv.2 q (omega arith)),
