@@ -13,10 +13,10 @@ module _ {W : Type 0} (code width : ℕ) (encoding : W → List ℕ) (no_lighter
   filled b false n f = absurd (f.0 (enough, a.table))
 
   -- from what the code has at hand
-  pub loaded : (carriedOn b : Bool) (lent bytes : List ℕ) (rows rows' : List Row) (store store' : List W) (r : Bool) → carriedOn ≡ b → lent ≡ masks → bytes ≡ lent → rows ≡ rows' → store ≡ store' →
-      Filled (in_force no_lighter (mask_of b bytes)) a.jobs m r (at rows' store') → Loaded code width encoding no_lighter carriedOn sheet lent m (at rows store)
-  loaded carriedOn b lent bytes rows rows' store store' r flag here same rs ss f =
+  pub loaded : (carried_on b : Bool) (lent bytes : List ℕ) (rows rows' : List Row) (store store' : List W) (r : Bool) → carried_on ≡ b → lent ≡ masks → bytes ≡ lent → rows ≡ rows' → store ≡ store' →
+      Filled (in_force no_lighter (mask_of b bytes)) a.jobs m r (at rows' store') → Loaded code width encoding no_lighter carried_on sheet lent m (at rows store)
+  loaded carried_on b lent bytes rows rows' store store' r flag here same rs ss f =
       let whole = filled b r (at rows' store') (subst (λ l. Filled (in_force no_lighter (mask_of b l)) a.jobs m r (at rows' store')) (same ∙ here) f) in
-      subst (λ l. Loaded code width encoding no_lighter carriedOn sheet l m (at rows store)) (sym here)
+      subst (λ l. Loaded code width encoding no_lighter carried_on sheet l m (at rows store)) (sym here)
       (subst (λ x. Loaded code width encoding no_lighter x sheet masks m (at rows store)) (sym flag)
       (subst (λ x. Loaded code width encoding no_lighter b sheet masks m (at x store)) (sym rs) (subst (λ x. Loaded code width encoding no_lighter b sheet masks m (at rows' x)) (sym ss) whole)))

@@ -6,9 +6,9 @@ ghost use Rattle.plan.specs.Loading.{Loaded, LoadRefused};
 
 use crate::filling::fill_from;
 use crate::planner::Plan;
+use crate::refusal::LoadRefusal;
 use calendars::carried_on::CarriedOn;
 use calendars::listed::Listed;
-use sheets::fault::LoadFault;
 use sheets::reader::read;
 use weights::kind::OrderedWeight;
 
@@ -20,21 +20,21 @@ pub fn load<'a, W: OrderedWeight>(
     store: &mut [W],
     sheet: &'a [u8],
     carried_on: bool,
-) -> Result<&'a [u8], LoadFault>
+) -> Result<&'a [u8], LoadRefusal>
     ensures cases { MatchResult result (λ masks. Loaded W.OrderedWeight.code W.OrderedWeight.width W.OrderedWeight.encoding W.OrderedWeight.no_lighter carried_on sheet.now masks.now (at (rows_in plan.old) store.old) (at (rows_in plan.new) store.new)) (LoadRefused W.OrderedWeight.code W.OrderedWeight.width W.OrderedWeight.encoding sheet.now store.old) }
     ensures refused { OnErr result ((plan.new ≡ plan.old) × (store.new ≡ store.old)) }
 {
     if store.len() < 256 {
-        return Err(LoadFault::StoreTooShort);
+        return Err(LoadRefusal::StoreTooShort);
     }
     let accepted = match read::<W>(sheet) {
         Ok(accepted) => accepted,
-        Err(fault) => return Err(fault),
+        Err(fault) => return Err(LoadRefusal::Sheet(fault)),
     };
     let masks = accepted.masks();
     // A sheet that was read has at most 1,024 masks, so that its calendar is always made.
     let Ok(calendar) = Listed::new(masks) else {
-        return Err(LoadFault::StoreTooShort);
+        return Err(LoadRefusal::StoreTooShort);
     };
     if carried_on {
         fill_from(plan, &CarriedOn::new(calendar), store, &accepted);

@@ -9,13 +9,13 @@ use Rattle.plan.proofs.Outcomes.{offered}
 use Rattle.plan.proofs.Rows.{distinct_apart, rows_count}
 use Rattle.plan.proofs.changes.offer.Goals as goal
 
-pub insert-ranked-requires : goal.insert-ranked-requires
-insert-ranked-requires g c =
+pub insert_ranked-requires : goal.insert_ranked-requires
+insert_ranked-requires g c =
     let rows = rows_in c.args.plan.now in
     let store = c.args.store.now in
     let before = heavier_then_lower g.W.OrderedWeight.no_lighter in
-    let good = c.in-default.ensures.cases.0 in
-    let allowed = c.in-default.ensures.cases.1 in
+    let good = c.in_default.ensures.cases.0 in
+    let allowed = c.in_default.ensures.cases.1 in
     let room : length rows < 256 = offer_room before rows store c.args.job allowed in
     let enough : 256 ≤ length store = good.0 in
     let long = rows_count c.args.plan.now.table.rows c.args.plan.now.table.count c.args.plan.now.table.whole c.args.plan.now.table.few in
@@ -31,11 +31,11 @@ insert-ranked-requires g c =
 pub answer-requires : goal.answer-requires
 answer-requires g c =
     let rows = rows_in c.args.plan.now in
-    let p = c.insert-ranked.result in
+    let p = c.insert_ranked.result in
     let long = rows_count c.args.plan.now.table.rows c.args.plan.now.table.count c.args.plan.now.table.whole c.args.plan.now.table.few in
-    let within : p ≤ length rows = (let w = c.insert-ranked.ensures.within in omega arith) in
+    let within : p ≤ length rows = (let w = c.insert_ranked.ensures.within in omega arith) in
     more_stay rows (rows_of c.replan.new.self) p c.args.job.number
-    (offer_more rows (rows_of c.insert-ranked.new.table) (rows_of c.replan.new.self) p _ within c.insert-ranked.ensures.rows c.replan.ensures.same).0
+    (offer_more rows (rows_of c.insert_ranked.new.table) (rows_of c.replan.new.self) p _ within c.insert_ranked.ensures.rows c.replan.ensures.same).0
 
 pub returns : goal.returns
 returns g c =
@@ -44,28 +44,28 @@ returns g c =
     let store = c.args.store.now in
     let table = c.args.plan.now.table in
     let last = c.replan.new.self in
-    let good = c.in-default.ensures.cases.0 in
-    let allowed = c.in-default.ensures.cases.1 in
+    let good = c.in_default.ensures.cases.0 in
+    let allowed = c.in_default.ensures.cases.1 in
     let long = rows_count table.rows table.count table.whole table.few in
     let long' = rows_count last.rows last.count last.whole last.few in
-    let mid = rows_of c.insert-ranked.new.table in
-    let p = c.insert-ranked.result in
-    let within : p ≤ length rows = (let w = c.insert-ranked.ensures.within in omega arith) in
-    let more = c.insert-ranked.new.table in
-    let long'' : length mid ≡ table.count + 1 = rows_count more.rows more.count more.whole more.few ∙ c.insert-ranked.ensures.count in
+    let mid = rows_of c.insert_ranked.new.table in
+    let p = c.insert_ranked.result in
+    let within : p ≤ length rows = (let w = c.insert_ranked.ensures.within in omega arith) in
+    let more = c.insert_ranked.new.table in
+    let long'' : length mid ≡ table.count + 1 = rows_count more.rows more.count more.whole more.few ∙ c.insert_ranked.ensures.count in
     record {
       outcome = offered no_lighter (g.C.Calendar.mask c.args.calendar.now) (record { total = g.met.W.OrderedWeight.total; trans = g.met.W.OrderedWeight.transitive })
-          rows mid (rows_of last) store c.insert-ranked.new.store c.answer.result p _ c.args.job refl allowed
+          rows mid (rows_of last) store c.insert_ranked.new.store c.answer.result p _ c.args.job refl allowed
           (record {
             few = (let f = last.few in omega arith);
             apart = distinct_apart (rows_of last) last.distinct;
-            ordered = c.insert-ranked.ensures.order;
+            ordered = c.insert_ranked.ensures.order;
             same = c.replan.ensures.same;
             drawn = c.replan.ensures.drawn;
-            rest = subst (λ (n : ℕ). drop n c.insert-ranked.new.store ≡ drop n store) (sym long'') c.insert-ranked.ensures.leaves;
+            rest = subst (λ (n : ℕ). drop n c.insert_ranked.new.store ≡ drop n store) (sym long'') c.insert_ranked.ensures.leaves;
             flag = c.answer.ensures.kept;
             first = c.answer.ensures.other;
           })
-          good.1.stored within c.insert-ranked.ensures.rows c.insert-ranked.ensures.made;
+          good.1.stored within c.insert_ranked.ensures.rows c.insert_ranked.ensures.made;
       refused = tt;
     }

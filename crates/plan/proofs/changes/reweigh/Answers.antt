@@ -17,45 +17,45 @@ use Rattle.plan.proofs.changes.reweigh.Goals as goal
 pub answer-requires : goal.answer-requires
 answer-requires g c =
     let table = c.args.plan.now.table in
-    let less = c.remove-ranked.new.table in
+    let less = c.remove_ranked.new.table in
     let rows = rows_of table in
     let rest = rows_of less in
     let after = rows_of c.replan.new.self in
-    let found = c.in-ok-from.ensures.cases in
-    let p = c.in-ok-from.from in
-    let q = c.insert-ranked.result in
+    let found = c.in_ok-from.ensures.cases in
+    let p = c.in_ok-from.from in
+    let q = c.insert_ranked.result in
     let within : p < length rows = (let l = rows_count table.rows table.count table.whole table.few in let h = found.1 in omega arith) in
-    let most : q ≤ length rest = (let l = rows_count less.rows less.count less.whole less.few in let h = c.insert-ranked.ensures.within in omega arith) in
+    let most : q ≤ length rest = (let l = rows_count less.rows less.count less.whole less.few in let h = c.insert_ranked.ensures.within in omega arith) in
     stay_on rows rest after c.args.number
-    (less_stay rest rows p c.args.number (withdraw_more rows rest rest p within c.remove-ranked.ensures.rows (same_itself rest)) found.2)
-    (more_stay rest after q c.args.number (offer_more rest (rows_of c.insert-ranked.new.table) after q c.row-row.result most c.insert-ranked.ensures.rows c.replan.ensures.same).0)
+    (less_stay rest rows p c.args.number (withdraw_more rows rest rest p within c.remove_ranked.ensures.rows (same_itself rest)) found.2)
+    (more_stay rest after q c.args.number (offer_more rest (rows_of c.insert_ranked.new.table) after q c.row-row.result most c.insert_ranked.ensures.rows c.replan.ensures.same).0)
 
 pub returns : goal.returns
 returns g c =
     let no_lighter = g.W.OrderedWeight.no_lighter in
     let rows = rows_in c.args.plan.now in
     let store = c.args.store.now in
-    let rack = c.remove-ranked.new.store in
-    let shelf = c.insert-ranked.new.store in
+    let rack = c.remove_ranked.new.store in
+    let shelf = c.insert_ranked.new.store in
     let table = c.args.plan.now.table in
-    let less = c.remove-ranked.new.table in
-    let more = c.insert-ranked.new.table in
+    let less = c.remove_ranked.new.table in
+    let more = c.insert_ranked.new.table in
     let last = c.replan.new.self in
-    let found = c.in-ok-from.ensures.cases in
+    let found = c.in_ok-from.ensures.cases in
     let n = c.args.number in
     let w = c.args.weight in
-    let p = c.in-ok-from.from in
-    let q = c.insert-ranked.result in
+    let p = c.in_ok-from.from in
+    let q = c.insert_ranked.result in
     let is = c.row-row.ensures.value in
     let h = found.1 in
     let long = rows_count table.rows table.count table.whole table.few in
     let within : p < length rows = omega arith in
-    let most : q ≤ length (rows_of less) = (let l = rows_count less.rows less.count less.whole less.few in let x = c.insert-ranked.ensures.within in omega arith) in
+    let most : q ≤ length (rows_of less) = (let l = rows_count less.rows less.count less.whole less.few in let x = c.insert_ranked.ensures.within in omega arith) in
     let size : length (rows_of more) ≡ (table.count - 1) + 1 =
-    rows_count more.rows more.count more.whole more.few ∙ (c.insert-ranked.ensures.count ∙ ap (λ (k : ℕ). k + 1) c.remove-ranked.ensures.count) in
+    rows_count more.rows more.count more.whole more.few ∙ (c.insert_ranked.ensures.count ∙ ap (λ (k : ℕ). k + 1) c.remove_ranked.ensures.count) in
     let k = table.count - 1 in
-    let put : drop (k + 1) shelf ≡ drop (k + 1) rack = subst (λ (i : ℕ). drop (i + 1) shelf ≡ drop (i + 1) rack) c.remove-ranked.ensures.count c.insert-ranked.ensures.leaves in
-    let rest : drop (k + 1) shelf ≡ drop (k + 1) store = put ∙ (sym (drop-drop 1 k rack) ∙ (ap (drop 1) c.remove-ranked.ensures.leaves ∙ drop-drop 1 k store)) in
+    let put : drop (k + 1) shelf ≡ drop (k + 1) rack = subst (λ (i : ℕ). drop (i + 1) shelf ≡ drop (i + 1) rack) c.remove_ranked.ensures.count c.insert_ranked.ensures.leaves in
+    let rest : drop (k + 1) shelf ≡ drop (k + 1) store = put ∙ (sym (drop-drop 1 k rack) ∙ (ap (drop 1) c.remove_ranked.ensures.leaves ∙ drop-drop 1 k store)) in
     record {
       outcome = reweighed_at no_lighter (g.C.Calendar.mask c.args.calendar.now) (record { total = g.met.W.OrderedWeight.total; trans = g.met.W.OrderedWeight.transitive })
           rows (rows_of more) (rows_of last) store shelf c.answer.result p n found.0.1.stored within (distinct_apart rows table.distinct) found.2
@@ -64,14 +64,14 @@ returns g c =
           (record {
             few = (let l = rows_count last.rows last.count last.whole last.few in let f = last.few in omega arith);
             apart = distinct_apart (rows_of last) last.distinct;
-            ordered = c.insert-ranked.ensures.order;
+            ordered = c.insert_ranked.ensures.order;
             same = c.replan.ensures.same;
             drawn = c.replan.ensures.drawn;
             rest = subst (λ (i : ℕ). drop i shelf ≡ drop i store) (sym size) rest;
             flag = c.answer.ensures.kept;
             first = c.answer.ensures.other;
           })
-          most c.remove-ranked.ensures.rows c.remove-ranked.ensures.made
-          (c.insert-ranked.ensures.rows ∙ ap (insert (rows_of less) q) is) (c.insert-ranked.ensures.made ∙ ap (λ r. insert (jobs_in (rows_of less) rack) q (job_of r w)) is);
+          most c.remove_ranked.ensures.rows c.remove_ranked.ensures.made
+          (c.insert_ranked.ensures.rows ∙ ap (insert (rows_of less) q) is) (c.insert_ranked.ensures.made ∙ ap (λ r. insert (jobs_in (rows_of less) rack) q (job_of r w)) is);
       refused = tt;
     }

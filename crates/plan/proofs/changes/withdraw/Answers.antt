@@ -12,26 +12,26 @@ use Rattle.plan.proofs.changes.withdraw.Goals as goal
 pub answer-requires : goal.answer-requires
 answer-requires g c =
     let table = c.args.plan.now.table in
-    let found = c.in-ok-rank.ensures.cases in
-    let p = c.in-ok-rank.rank in
+    let found = c.in_ok-rank.ensures.cases in
+    let p = c.in_ok-rank.rank in
     let within : p < length (rows_of table) = (let l = rows_count table.rows table.count table.whole table.few in let h = found.1 in omega arith) in
     less_stay (rows_of c.replan.new.self) (rows_of table) p c.args.number
-    (withdraw_more (rows_of table) (rows_of c.remove-ranked.new.table) (rows_of c.replan.new.self) p within c.remove-ranked.ensures.rows c.replan.ensures.same) found.2
+    (withdraw_more (rows_of table) (rows_of c.remove_ranked.new.table) (rows_of c.replan.new.self) p within c.remove_ranked.ensures.rows c.replan.ensures.same) found.2
 
 pub returns : goal.returns
 returns g c =
     let no_lighter = g.W.OrderedWeight.no_lighter in
     let rows = rows_in c.args.plan.now in
     let store = c.args.store.now in
-    let shelf = c.remove-ranked.new.store in
+    let shelf = c.remove_ranked.new.store in
     let table = c.args.plan.now.table in
-    let less = c.remove-ranked.new.table in
+    let less = c.remove_ranked.new.table in
     let last = c.replan.new.self in
-    let found = c.in-ok-rank.ensures.cases in
+    let found = c.in_ok-rank.ensures.cases in
     let n = c.args.number in
-    let p = c.in-ok-rank.rank in
+    let p = c.in_ok-rank.rank in
     let within : p < length rows = (let l = rows_count table.rows table.count table.whole table.few in let h = found.1 in omega arith) in
-    let size : length (rows_of less) ≡ table.count - 1 = rows_count less.rows less.count less.whole less.few ∙ c.remove-ranked.ensures.count in
+    let size : length (rows_of less) ≡ table.count - 1 = rows_count less.rows less.count less.whole less.few ∙ c.remove_ranked.ensures.count in
     record {
       outcome = withdrawn no_lighter (g.C.Calendar.mask c.args.calendar.now) (record { total = g.met.W.OrderedWeight.total; trans = g.met.W.OrderedWeight.transitive })
           rows (rows_of less) (rows_of last) store shelf c.answer.result p n found.0.1.stored within (distinct_apart rows table.distinct) found.2
@@ -39,13 +39,13 @@ returns g c =
           (record {
             few = (let l = rows_count last.rows last.count last.whole last.few in let f = last.few in omega arith);
             apart = distinct_apart (rows_of last) last.distinct;
-            ordered = c.remove-ranked.ensures.order found.0.1;
+            ordered = c.remove_ranked.ensures.order found.0.1;
             same = c.replan.ensures.same;
             drawn = c.replan.ensures.drawn;
-            rest = subst (λ (k : ℕ). drop k shelf ≡ drop k store) (sym size) c.remove-ranked.ensures.leaves;
+            rest = subst (λ (k : ℕ). drop k shelf ≡ drop k store) (sym size) c.remove_ranked.ensures.leaves;
             flag = c.answer.ensures.kept;
             first = c.answer.ensures.other;
           })
-          c.remove-ranked.ensures.rows c.remove-ranked.ensures.made;
+          c.remove_ranked.ensures.rows c.remove_ranked.ensures.made;
       refused = tt;
     }

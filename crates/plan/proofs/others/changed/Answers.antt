@@ -17,8 +17,8 @@ returns-in-Some c =
     record {
       answers = flags_compared before after (distinct_apart before c.args.before.now.distinct) (distinct_apart after c.args.after.now.distinct) c.args.rank l c.in-Some.was m
           (found.1 ∙ ap (λ r. r.number) c.row-row.ensures.value)
-          c.is-some.result c.is-some-in-Some.result
-          (c.is-some.ensures ∙ ap (λ r. is_some r.seat) c.row.ensures.value) (c.is-some-in-Some.ensures ∙ ap (λ r. is_some r.seat) c.row-row.ensures.value);
+          c.is_some.result c.is_some-in-Some.result
+          (c.is_some.ensures ∙ ap (λ r. is_some r.seat) c.row.ensures.value) (c.is_some-in-Some.ensures ∙ ap (λ r. is_some r.seat) c.row-row.ensures.value);
     }
 
 pub returns-in-None : goal.returns-in-None

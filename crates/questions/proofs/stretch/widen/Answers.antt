@@ -6,7 +6,7 @@ pub loop-row-init : goal.loop-row-init
 loop-row-init c = widened_none c.args.rows.now c.args.lo c.args.hi
 
 pub loop-row-preserved : goal.loop-row-preserved
-loop-row-preserved c = widened_more _ _ _ _ _ _ _ _ c.loop-row.invariant c.widen-by.ensures.value
+loop-row-preserved c = widened_more _ _ _ _ _ _ _ _ c.loop-row.invariant c.widen_by.ensures.value
 
 pub returns : goal.returns
 returns c = record { value = widened_all _ c.loop-row.row-index _ _ _ _ (omega arith) c.loop-row.invariant }

@@ -14,7 +14,7 @@ returns g c =
     let mask = g.C.Calendar.mask c.args.calendar.now in
     let lent = c.rows.ensures.value in
     record {
-      same = subst (SameTable rows) (sym c.seat-all.ensures.leaves) (seated_table rows c.draw.new.seats);
-      drawn = subst (Drawn earliest_then_lower mask) (sym c.seat-all.ensures.leaves) (draws mask rows c.rows.result.now c.args.seats.now c.draw.new.seats c.draw.result lent c.rows.ensures.drawable (search (rules, places)) c.draw.ensures.answers);
+      same = subst (SameTable rows) (sym c.seat_all.ensures.leaves) (seated_table rows c.draw.new.seats);
+      drawn = subst (Drawn earliest_then_lower mask) (sym c.seat_all.ensures.leaves) (draws mask rows c.rows.result.now c.args.seats.now c.draw.new.seats c.draw.result lent c.rows.ensures.drawable (search (rules, places)) c.draw.ensures.answers);
       count = search rules;
     }

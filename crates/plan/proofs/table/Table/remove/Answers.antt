@@ -7,27 +7,24 @@ use Rattle.plan.specs.Rows.{Distinct, Numbered, Windows}
 use Rattle.plan.proofs.Rows.{HasWindow, HasNumber, distinct_removed, all_removed, removed_absent}
 use Rattle.plan.proofs.table.Table.remove.Goals as goal
 
-pub invariant-of-self : goal.invariant-of-self
-invariant-of-self c = (
-  search rules,
-  (
-    search rules,
-    (
-      subst Distinct (sym c.close-at.ensures.value)
-          (distinct_removed (take c.args.self.now.count c.args.self.now.rows) c.args.rank (search (rules, places)) c.args.self.now.distinct),
-      (
-        subst Windows (sym c.close-at.ensures.value) (all_removed HasWindow (take c.args.self.now.count c.args.self.now.rows) c.args.rank (search (rules, places)) c.args.self.now.windows),
-        (subst Numbered (sym c.close-at.ensures.value) (all_removed HasNumber (take c.args.self.now.count c.args.self.now.rows) c.args.rank (search (rules, places)) c.args.self.now.numbered), tt),
-      ),
-    ),
-  ),
-)
+pub invariant_of-self : goal.invariant_of-self
+invariant_of-self c = record {
+  whole = search rules;
+  few = search rules;
+  distinct =
+      subst Distinct (sym c.close_at.ensures.value)
+          (distinct_removed (take c.args.self.now.count c.args.self.now.rows) c.args.rank (search (rules, places)) c.args.self.now.distinct);
+  windows =
+      subst Windows (sym c.close_at.ensures.value) (all_removed HasWindow (take c.args.self.now.count c.args.self.now.rows) c.args.rank (search (rules, places)) c.args.self.now.windows);
+  numbered =
+      subst Numbered (sym c.close_at.ensures.value) (all_removed HasNumber (take c.args.self.now.count c.args.self.now.rows) c.args.rank (search (rules, places)) c.args.self.now.numbered);
+}
 
 pub returns : goal.returns
 returns c =
     let rows = take c.args.self.now.count c.args.self.now.rows in
     record {
       leaves = search rules;
-      absent = subst (λ rs. Stands rs (row rows c.args.rank).number Absent) (sym c.close-at.ensures.value) (removed_absent rows c.args.rank (search (rules, places)) c.args.self.now.distinct);
+      absent = subst (λ rs. Stands rs (row rows c.args.rank).number Absent) (sym c.close_at.ensures.value) (removed_absent rows c.args.rank (search (rules, places)) c.args.self.now.distinct);
       count = search rules;
     }
