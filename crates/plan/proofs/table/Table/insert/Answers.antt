@@ -10,8 +10,8 @@ invariant_of-self c = record {
   few = search rules;
   distinct =
       subst Distinct (sym c.open_at.ensures.value)
-          (distinct_inserted (take c.args.self.now.count c.args.self.now.rows) c.args.rank c.args.row (search (rules, places)) c.requires.absent c.args.self.now.distinct);
+      (distinct_inserted (take c.args.self.now.count c.args.self.now.rows) c.args.rank c.args.row (search (rules, places)) c.requires.absent c.args.self.now.distinct);
   windows =
-        subst Windows (sym c.open_at.ensures.value) (all_inserted HasWindow (take c.args.self.now.count c.args.self.now.rows) c.args.rank c.args.row (search (rules, places)) c.requires.window c.args.self.now.windows);
+      subst Windows (sym c.open_at.ensures.value) (all_inserted HasWindow (take c.args.self.now.count c.args.self.now.rows) c.args.rank c.args.row (search (rules, places)) c.requires.window c.args.self.now.windows);
   numbered = subst Numbered (sym c.open_at.ensures.value) (all_inserted HasNumber (take c.args.self.now.count c.args.self.now.rows) c.args.rank c.args.row (search (rules, places)) c.requires.numbered c.args.self.now.numbered);
 }

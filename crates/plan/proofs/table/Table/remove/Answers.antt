@@ -13,7 +13,7 @@ invariant_of-self c = record {
   few = search rules;
   distinct =
       subst Distinct (sym c.close_at.ensures.value)
-          (distinct_removed (take c.args.self.now.count c.args.self.now.rows) c.args.rank (search (rules, places)) c.args.self.now.distinct);
+      (distinct_removed (take c.args.self.now.count c.args.self.now.rows) c.args.rank (search (rules, places)) c.args.self.now.distinct);
   windows =
       subst Windows (sym c.close_at.ensures.value) (all_removed HasWindow (take c.args.self.now.count c.args.self.now.rows) c.args.rank (search (rules, places)) c.args.self.now.windows);
   numbered =

@@ -10,13 +10,13 @@ invariant_of-self c = record {
   few = search rules;
   distinct =
       subst Distinct (sym (seated_rows c.args.self.now.rows c.args.self.now.count c.args.rank c.args.seat c.requires (search rules)))
-          (distinct_seated (take c.args.self.now.count c.args.self.now.rows) c.args.rank c.args.seat (search (rules, places)) c.args.self.now.distinct);
+      (distinct_seated (take c.args.self.now.count c.args.self.now.rows) c.args.rank c.args.seat (search (rules, places)) c.args.self.now.distinct);
   windows =
       subst Windows (sym (seated_rows c.args.self.now.rows c.args.self.now.count c.args.rank c.args.seat c.requires (search rules)))
-            (all_seated HasWindow (λ r s w. w) (take c.args.self.now.count c.args.self.now.rows) c.args.rank c.args.seat (search (rules, places)) c.args.self.now.windows);
+      (all_seated HasWindow (λ r s w. w) (take c.args.self.now.count c.args.self.now.rows) c.args.rank c.args.seat (search (rules, places)) c.args.self.now.windows);
   numbered =
       subst Numbered (sym (seated_rows c.args.self.now.rows c.args.self.now.count c.args.rank c.args.seat c.requires (search rules)))
-              (all_seated HasNumber (λ r s w. w) (take c.args.self.now.count c.args.self.now.rows) c.args.rank c.args.seat (search (rules, places)) c.args.self.now.numbered);
+      (all_seated HasNumber (λ r s w. w) (take c.args.self.now.count c.args.self.now.rows) c.args.rank c.args.seat (search (rules, places)) c.args.self.now.numbered);
 }
 
 pub returns : goal.returns
