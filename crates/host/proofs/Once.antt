@@ -1,5 +1,5 @@
 -- A sheet has one text. Assumes nothing.
-use Rattle.std.proofs.Common.{◌≡◌, ℕ, Bool, true, false, List, [], ◌∷◌, ◌++◌, get_or, Some, sym, refl, ap, ◌∙◌, subst, inl, inr, arith, lit≤}
+use Rattle.std.proofs.Common.{◌≡◌, ℕ, Bool, true, false, List, [], ◌∷◌, ◌++◌, get_or, sym, refl, ap, ◌∙◌, subst, inl, inr, arith, lit≤}
 use Rattle.calendars.specs.Masks.{listed_mask}
 use Rattle.kinds.specs.PointsKind.{points_encoding, points_no_lighter}
 use Rattle.kinds.specs.ClassedKind.{classed_encoding, classed_no_lighter}
@@ -10,7 +10,7 @@ use Rattle.placing.proofs.Orders.{heavier_then_lower_ranks, earliest_then_lower_
 use Rattle.placing.proofs.Ranks.{plan_alone}
 use Rattle.calls.proofs.Jobs.{same_refl}
 use Rattle.sheets.specs.declared.fault.LoadFault.{LoadFault}
-use Rattle.sheets.specs.declared.fault.LoadFault.TheVariants.{Sheet, Table, StoreTooShort}
+use Rattle.sheets.specs.declared.fault.LoadFault.TheVariants.{Sheet, Table}
 use Rattle.sheets.specs.declared.fault.SheetFault.TheVariants.{OtherKind}
 use Rattle.sheets.specs.declared.kind.Kind.{Kind}
 use Rattle.sheets.specs.declared.kind.Kind.TheVariants.{Points, Classed, Share}
@@ -24,10 +24,7 @@ use Rattle.text.proofs.Lines.{printed_once}
 use Rattle.host.specs.Texts.{RefusalText, PlanText, TextOnce, TextAs, SheetTextOnce}
 
 refusal_once : (f g : LoadFault) (text text' : List ℕ) → f ≡ g → RefusalText f text → RefusalText g text' → text ≡ text'
-refusal_once f g text text' e a b =
-    let byte : Some a.0 ≡ Some b.0 = sym a.1 ∙ ap load_fault_byte e ∙ b.1 in
-    let same : a.0 ≡ b.0 = cc in
-    a.2 ∙ ap (λ h. refusal_line (load_fault_number h) a.0) e ∙ ap (refusal_line (load_fault_number g)) same ∙ sym b.2
+refusal_once f g text text' e a b = a ∙ ap (λ h. refusal_line (load_fault_number h) (load_fault_byte h)) e ∙ sym b
 
 module _ {W : Type 0} (code width : ℕ) (encoding : W → List ℕ) (no_lighter : W → W → Bool) (once : OneReading code width encoding) (weighs : Weighs no_lighter) where
   -- the reading settles masks and jobs, these the rows, and these the text
@@ -65,16 +62,13 @@ module _ (sheet : List ℕ) where
   kind_refused_once : (f g : LoadFault) → KindRefused Offered sheet f → KindRefused Offered sheet g → f ≡ g
   kind_refused_once (Sheet f a) (Sheet g b) x y =
       let p = cause_alone 1 1 1 sheet (λ c. c ∷ []) (λ c. Offered c → ⊥) OtherKind (lit≤ tt, lit≤ tt) f g x.cause y.cause in
-      let q : Some a ≡ Some b = x.byte ∙ sym y.byte in cc
+      let q : a ≡ b = x.byte ∙ sym y.byte in cc
   kind_refused_once (Sheet f a) (Table g b) x y = absurd y.cause
-  kind_refused_once (Sheet f a) StoreTooShort x y = absurd y.cause
   kind_refused_once (Table f a) g x y = absurd x.cause
-  kind_refused_once StoreTooShort g x y = absurd x.cause
 
   -- a sheet that names a kind is not refused there
   named_right : (kind : Kind) (rest : List ℕ) (f : LoadFault) → sheet ≡ kind_record (kind_code kind) ++ rest → KindRefused Offered sheet f → ⊥
   named_right kind rest (Table f a) e x = x.cause
-  named_right kind rest StoreTooShort e x = x.cause
   named_right kind rest (Sheet f a) e x =
       elim x.cause [
         | inl h ↦ frame_right 1 1 1 sheet (lit≤ tt, lit≤ tt) f (kind_code kind ∷ []) h (record { long = (lit≤ tt, lit≤ tt); after = rest; bytes = e })

@@ -9,7 +9,7 @@
 --   Handed text before after r      the text stands at the buffer's front, the rest of which is as before, and r tells its length and whether it is a refusal;
 --                                   or the text is longer than the buffer, which is as it was
 --   Answered text before after r    the same for a host: r is the text's length, or −15
-use Rattle.std.specs.Prelude.{◌≡◌, ℕ, ◌<◌, ◌≤◌, Bool, true, false, ◌⊎◌, List, ◌++◌, length, drop, ℤ, pos, negsuc, Some, Ok, Err, Result}
+use Rattle.std.specs.Prelude.{◌≡◌, ℕ, ◌<◌, ◌≤◌, Bool, true, false, ◌⊎◌, List, ◌++◌, length, drop, ℤ, pos, negsuc, Ok, Err, Result}
 use Rattle.calendars.specs.Masks.{listed_mask}
 use Rattle.jobs.specs.declared.terms.Row.{Row}
 use Rattle.kinds.specs.PointsKind.{points_encoding, points_no_lighter}
@@ -28,7 +28,7 @@ use Rattle.text.specs.Printing.{Printed, refusal_line}
 use Rattle.host.specs.declared.terms.SheetText.{SheetText as Handing}
 
 abbrev pub RefusalText : LoadFault → List ℕ → Type 0
-RefusalText fault text = (byte : ℕ) × (load_fault_byte fault ≡ Some byte) × (text ≡ refusal_line (load_fault_number fault) byte)
+RefusalText fault text = text ≡ refusal_line (load_fault_number fault) (load_fault_byte fault)
 
 -- a kind of weight stands here by its code, the width of its weights, their bytes and their relation
 module _ {W : Type 0} (code width : ℕ) (encoding : W → List ℕ) (no_lighter : W → W → Bool) where

@@ -1,11 +1,10 @@
 // The text of a sheet for one kind of weight.
-ghost use Rattle.std.specs.Prelude.{◌≡◌, ℕ, ◌≤◌, Bool, true, List, length, is_some, IfOk};
-ghost use Rattle.sheets.specs.Faults.{load_fault_byte};
+ghost use Rattle.std.specs.Prelude.{ℕ, ◌≤◌, Bool, true, List, length, IfOk};
 ghost use Rattle.text.specs.Putting.{Delivered};
 ghost use Rattle.host.specs.Texts.{RefusalText, TextOf, TextOnce, Handed};
 
 use crate::terms::SheetText;
-use plan::{Plan, load};
+use plan::{LoadRefusal, Plan, load};
 use sheets::fault::LoadFault;
 use text::{BufferFault, print, print_refusal};
 use weights::kind::OrderedWeight;
@@ -21,16 +20,12 @@ fn told(printed: Result<usize, BufferFault>, refused: bool) -> Result<SheetText,
     }
 }
 
-// The line of a refusal that has a byte.
+// The line of a refusal.
 pub(crate) fn refusal_text(fault: LoadFault, out: &mut [u8]) -> Result<SheetText, BufferFault>
-    requires { is_some (load_fault_byte fault) ≡ true }
     ensures cases { (text : List ℕ) × RefusalText fault text × Handed true text out.old out.new result }
     ensures short { IfOk result (λ s. s.length ≤ 5120) }
 {
-    match fault.byte() {
-        Some(byte) => told(print_refusal(fault.number(), byte, out), true),
-        None => Err(BufferFault::TooShort),
-    }
+    told(print_refusal(fault.number(), fault.byte(), out), true)
 }
 
 // The text of a sheet of this kind, with a lent weight store of 256 entries.
@@ -46,7 +41,9 @@ pub(crate) fn text_with<W: OrderedWeight>(
     let mut plan = Plan::open();
     match load::<W>(&mut plan, store, sheet, false) {
         Ok(_) => told(print(&plan, out), false),
-        Err(fault) => refusal_text(fault, out),
+        Err(LoadRefusal::Sheet(fault)) => refusal_text(fault, out),
+        // The store is long enough.
+        Err(LoadRefusal::StoreTooShort) => Err(BufferFault::TooShort),
     }
 }
 

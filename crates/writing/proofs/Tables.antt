@@ -2,13 +2,13 @@
 use Rattle.std.proofs.Common.{◌≡◌, ℕ, suc, ◌+◌, ◌<◌, ◌≤◌, Bool, true, false, ◌||◌, eqb, List, [], ◌∷◌, ◌++◌, length, take, refl, arith}
 use Rattle.std.proofs.lemmas.List.{length_push}
 use Rattle.std.proofs.lemmas.Bool.{ne_eqb}
+use Rattle.jobs.specs.Admission.{taken, Admitted}
 use Rattle.jobs.specs.declared.terms.Row.{Row}
 use Rattle.jobs.specs.declared.terms.Job.{Job}
 use Rattle.placing.specs.Placing.{row}
 use Rattle.placing.specs.Promise.{job_of, jobs_of}
 use Rattle.calls.specs.Moments.{jobs_in}
 use Rattle.plan.specs.Rows.{Distinct, Numbered, Windows, Tabled}
-use Rattle.sheets.specs.Format.{taken, Admitted}
 
 or_false : (a b : Bool) → a || b ≡ false → (a ≡ false) × (b ≡ false)
 or_false true b e = absurd (let z : ◌≡◌ {A = ℕ} 0 1 = cc in omega arith)

@@ -1,4 +1,4 @@
-use Rattle.std.proofs.Common.{◌≡◌, ◌≤◌, IfOk, Ok, Err, Result, sym, ap, arith}
+use Rattle.std.proofs.Common.{◌≡◌, ◌≤◌, IfOk, Ok, Err, Result, ap, ◌∙◌, sym, arith}
 use Rattle.text.specs.declared.fault.BufferFault.{BufferFault}
 use Rattle.text.specs.Printing.{refusal_line}
 use Rattle.host.specs.declared.terms.SheetText.{SheetText}
@@ -8,14 +8,14 @@ longer : (r : Result SheetText BufferFault) → IfOk r (λ s. s.length ≤ 36) �
 longer (Ok s) h = omega arith
 longer (Err f) h = tt
 
-pub returns-in-Some : goal.returns-in-Some
-returns-in-Some c =
-    let byte = c.in-Some.byte in
+pub returns : goal.returns
+returns c =
+    let line = refusal_line c.number.result c.byte.result in
     record {
       cases = (
-        refusal_line c.number.result byte,
-        (byte, sym c.in-Some.ensures, ap (λ n. refusal_line n byte) c.number.ensures),
-        c.told.ensures.value (refusal_line c.number.result byte) c.args.out.now c.print-refusal.new.out c.print-refusal.ensures.cases,
+        line,
+        ap (λ n. refusal_line n c.byte.result) c.number.ensures ∙ ap (refusal_line _) c.byte.ensures,
+        c.told.ensures.value line c.args.out.now c.print_refusal.new.out c.print_refusal.ensures.cases,
       );
-      short = longer c.told.result (c.told.ensures.short 36 c.print-refusal.ensures.short);
+      short = longer c.told.result (c.told.ensures.short 36 c.print_refusal.ensures.short);
     }

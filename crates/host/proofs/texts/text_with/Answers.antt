@@ -1,5 +1,7 @@
-use Rattle.std.proofs.Common.{true, false, inl, inr, arith}
+use Rattle.std.proofs.Common.{true, false, subst}
 use Rattle.plan.specs.Plans.{rows_in}
+use Rattle.plan.specs.Loading.{LoadRefused}
+use Rattle.host.specs.Texts.{RefusalText}
 use Rattle.host.proofs.texts.text_with.Goals as goal
 
 pub returns-in-Ok : goal.returns-in-Ok
@@ -27,13 +29,10 @@ returns-in-Ok g c =
       short = c.told.ensures.short 5120 c.print.ensures.short;
     }
 
-pub returns-in-Err : goal.returns-in-Err
-returns-in-Err g c =
-    let line = c.refusal-text.ensures.cases in
-    record {
-      cases = elim c.in-Err.ensures.cases [
-        | inl short ↦ absurd (let enough = c.requires in let few = short.0 in omega arith)
-        | inr refused ↦ (true, (line.0, (c.in-Err.fault, refused.1, line.1), line.2))
-      ];
-      short = c.refusal-text.ensures.short;
-    }
+pub returns-in-Err-Sheet : goal.returns-in-Err-Sheet
+returns-in-Err-Sheet g c =
+    let w = g.W.OrderedWeight in
+    let line = c.refusal_text.ensures.cases in
+    let refused = subst (LoadRefused w.code w.width w.encoding c.args.sheet.now c.args.store.now) c.in-Err-Sheet.field-0-is c.in-Err-Sheet.ensures.cases in
+    let text = subst (λ f. RefusalText f line.0) c.in-Err-Sheet.fault-is line.1 in
+    record { cases = (true, (line.0, (c.in-Err-Sheet.fault, refused.1, text), line.2)); short = c.refusal_text.ensures.short }

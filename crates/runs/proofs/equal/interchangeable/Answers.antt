@@ -16,7 +16,7 @@ returns g c =
     let weighs : Weighs no_lighter = record { total = g.met.W.OrderedWeight.total; trans = g.met.W.OrderedWeight.transitive } in
     let here = g.C.Calendar.mask c.args.c.now in
     let there = g.D.Calendar.mask c.args.d.now in
-    let same = decided c.same-masks.result (SameMasks here there) c.same-masks.ensures.answers in
+    let same = decided c.same_masks.result (SameMasks here there) c.same_masks.ensures.answers in
     record {
       answers = same;
       equal = λ e table table' jobs m n p q.

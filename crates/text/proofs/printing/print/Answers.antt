@@ -14,11 +14,11 @@ delivered-short text before after (Err TooShort) k d h = tt
 
 pub returns : goal.returns
 returns c =
-    let text = take c.put-rows-end.result c.put-rows-end.new.buf in
-    let inside = c.put-rows-end.ensures.inside in
-    let long : length c.put-rows-end.new.buf ≤ 5120 = omega arith in
+    let text = take c.put_rows-end.result c.put_rows-end.new.buf in
+    let inside = c.put_rows-end.ensures.inside in
+    let long : length c.put_rows-end.new.buf ≤ 5120 = omega arith in
     record {
-      cases = (text, subst (λ rows. Printed rows text) c.rows.ensures.value c.put-rows-end.ensures.lines, c.deliver.ensures);
+      cases = (text, subst (λ rows. Printed rows text) c.rows.ensures.value c.put_rows-end.ensures.lines, c.deliver.ensures);
       alone = printed_once;
-      short = delivered-short text _ _ c.deliver.result 5120 c.deliver.ensures (omega (arith, length-take c.put-rows-end.result c.put-rows-end.new.buf));
+      short = delivered-short text _ _ c.deliver.result 5120 c.deliver.ensures (omega (arith, length-take c.put_rows-end.result c.put_rows-end.new.buf));
     }

@@ -3,20 +3,20 @@ use Rattle.text.proofs.Decimals.{three, twenty}
 use Rattle.text.proofs.Pieces.{put_more}
 use Rattle.text.proofs.printing.put_refusal.Goals as goal
 
-pub put-number-b-requires : goal.put-number-b-requires
-put-number-b-requires c = let n = three c.args.number (omega arith) in omega arith
+pub put_number-b-requires : goal.put_number-b-requires
+put_number-b-requires c = let n = three c.args.number (omega arith) in omega arith
 
-pub put-text-c-requires : goal.put-text-c-requires
-put-text-c-requires c = let n = three c.args.number (omega arith) in omega arith
+pub put_text-c-requires : goal.put_text-c-requires
+put_text-c-requires c = let n = three c.args.number (omega arith) in omega arith
 
-pub put-number-d-requires : goal.put-number-d-requires
-put-number-d-requires c =
+pub put_number-d-requires : goal.put_number-d-requires
+put_number-d-requires c =
     let n = three c.args.number (omega arith) in
     let b = twenty c.args.byte (omega arith) in
     omega arith
 
-pub put-text-requires : goal.put-text-requires
-put-text-requires c =
+pub put_text-requires : goal.put_text-requires
+put_text-requires c =
     let n = three c.args.number (omega arith) in
     let b = twenty c.args.byte (omega arith) in
     omega arith
@@ -25,8 +25,8 @@ pub returns : goal.returns
 returns c =
     let n = three c.args.number (omega arith) in
     let b = twenty c.args.byte (omega arith) in
-    let last = put_more (decimal c.args.byte) (codes "\n") c.put-number-d.ensures c.put-text.ensures in
+    let last = put_more (decimal c.args.byte) (codes "\n") c.put_number-d.ensures c.put_text.ensures in
     record {
-      line = put_more (codes "refused ") _ c.put-text-a.ensures (put_more (decimal c.args.number) _ c.put-number-b.ensures (put_more (codes " at ") _ c.put-text-c.ensures last));
+      line = put_more (codes "refused ") _ c.put_text-a.ensures (put_more (decimal c.args.number) _ c.put_number-b.ensures (put_more (codes " at ") _ c.put_text-c.ensures last));
       short = omega arith;
     }

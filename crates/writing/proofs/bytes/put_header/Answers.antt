@@ -5,6 +5,6 @@ use Rattle.writing.proofs.bytes.put_header.Goals as goal
 
 pub returns : goal.returns
 returns c = record {
-  value = put_then c.args.at c.put-byte-next.result c.put-two.result (c.args.tag ∷ []) (two c.args.size) c.args.out.now c.put-byte-next.new.out c.put-two.new.out
-      (let h = c.requires.room in omega arith) c.put-byte-next.ensures.value c.put-two.ensures.value;
+  value = put_then c.args.at c.put_byte-next.result c.put_two.result (c.args.tag ∷ []) (two c.args.size) c.args.out.now c.put_byte-next.new.out c.put_two.new.out
+      (let h = c.requires.room in omega arith) c.put_byte-next.ensures.value c.put_two.ensures.value;
 }

@@ -4,6 +4,6 @@ use Rattle.writing.proofs.bytes.put_two.Goals as goal
 
 pub returns : goal.returns
 returns c = record {
-  value = put_then c.args.at c.put-byte-next.result c.put-byte.result (c.args.number / 256 ∷ []) (c.args.number % 256 ∷ []) c.args.out.now c.put-byte-next.new.out c.put-byte.new.out
-      (let h = c.requires.room in omega arith) c.put-byte-next.ensures.value c.put-byte.ensures.value;
+  value = put_then c.args.at c.put_byte-next.result c.put_byte.result (c.args.number / 256 ∷ []) (c.args.number % 256 ∷ []) c.args.out.now c.put_byte-next.new.out c.put_byte.new.out
+      (let h = c.requires.room in omega arith) c.put_byte-next.ensures.value c.put_byte.ensures.value;
 }

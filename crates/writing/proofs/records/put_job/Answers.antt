@@ -14,23 +14,23 @@ returns g c =
     let row = c.args.row.now in
     let weight = c.args.weight.now in
     let bytes = w.encoding weight in
-    let k = c.byte-width-width.result in
-    let long : 6 + k ≡ length (job_value w.encoding (job_of row weight)) = (let e = value_long w.encoding w.width sized (job_of row weight) in let f = c.byte-width-width.ensures in omega arith) in
-    let out₁ = c.put-header-number.new.out in
-    let out₂ = c.put-two-ready.new.out in
-    let out₃ = c.put-two-deadline.new.out in
-    let out₄ = c.put-two-next.new.out in
-    let a = c.put-header-number.result in
-    let b = c.put-two-ready.result in
-    let d = c.put-two-deadline.result in
-    let e = c.put-two-next.result in
+    let k = c.byte_width-width.result in
+    let long : 6 + k ≡ length (job_value w.encoding (job_of row weight)) = (let e = value_long w.encoding w.width sized (job_of row weight) in let f = c.byte_width-width.ensures in omega arith) in
+    let out₁ = c.put_header-number.new.out in
+    let out₂ = c.put_two-ready.new.out in
+    let out₃ = c.put_two-deadline.new.out in
+    let out₄ = c.put_two-next.new.out in
+    let a = c.put_header-number.result in
+    let b = c.put_two-ready.result in
+    let d = c.put_two-deadline.result in
+    let e = c.put_two-next.result in
     let out₅ = put_mid e (e + k - e) out₄ c.write.new.space in
     let part = put_part e k w.width out₄ c.write.new.space bytes c.write.result c.write.ensures.answers c.write.ensures.leaves
-    c.byte-width-width.ensures (sized weight) (search rules) in
+    c.byte_width-width.ensures (sized weight) (search rules) in
     record {
       value = subst (λ (n : ℕ). Put c.args.at (3 ∷ two n ++ (two row.number ++ (two row.ready ++ (two row.deadline ++ bytes)))) c.args.out.now out₅ (e + k)) long
-          (put_then c.args.at a (e + k) (3 ∷ two (6 + k)) _ c.args.out.now out₁ out₅ (search rules) c.put-header-number.ensures.value
-          (put_then a b (e + k) (two row.number) _ out₁ out₂ out₅ (search rules) c.put-two-ready.ensures.value
-          (put_then b d (e + k) (two row.ready) _ out₂ out₃ out₅ (search rules) c.put-two-deadline.ensures.value
-          (put_then d e (e + k) (two row.deadline) bytes out₃ out₄ out₅ (search rules) c.put-two-next.ensures.value part))));
+          (put_then c.args.at a (e + k) (3 ∷ two (6 + k)) _ c.args.out.now out₁ out₅ (search rules) c.put_header-number.ensures.value
+          (put_then a b (e + k) (two row.number) _ out₁ out₂ out₅ (search rules) c.put_two-ready.ensures.value
+          (put_then b d (e + k) (two row.ready) _ out₂ out₃ out₅ (search rules) c.put_two-deadline.ensures.value
+          (put_then d e (e + k) (two row.deadline) bytes out₃ out₄ out₅ (search rules) c.put_two-next.ensures.value part))));
     }

@@ -9,8 +9,8 @@ use Rattle.writing.proofs.Jobs.{front, front_long, front_room, front_more, jobs_
 use Rattle.writing.proofs.Puts.{put_nothing, put_then}
 use Rattle.writing.proofs.records.put_jobs.Goals as goal
 
-pub put-job-next-requires : goal.put-job-next-requires
-put-job-next-requires g c =
+pub put_job-next-requires : goal.put_job-next-requires
+put_job-next-requires g c =
     let w = g.W.OrderedWeight in
     let sized = g.met.W.OrderedWeight.sized in
     let rows = c.args.rows.now in
@@ -32,12 +32,12 @@ loop-rank-preserved g c =
     let rows = c.args.rows.now in
     let store = c.args.store.now in
     let i = c.loop-rank.rank in
-    let out = c.put-job-next.new.out in
-    let next = c.put-job-next.result in
+    let out = c.put_job-next.new.out in
+    let next = c.put_job-next.result in
     subst (λ (l : List ℕ). Put c.args.at l c.args.out.now out next)
     (sym (front_more w.encoding w.width sized rows store c.requires.stored i c.loop-rank-test.true c.index-store-rank.result c.index-store-rank.is))
     (put_then c.args.at c.loop-rank.next next (front w.encoding w.width sized rows store i) (record_bytes 3 (job_value w.encoding (job_of (row_at rows i) c.index-store-rank.result))) c.args.out.now c.loop-rank.out out
-    (let h = c.requires.room in omega arith) c.loop-rank.invariant c.put-job-next.ensures.value)
+    (let h = c.requires.room in omega arith) c.loop-rank.invariant c.put_job-next.ensures.value)
 
 pub returns : goal.returns
 returns g c =

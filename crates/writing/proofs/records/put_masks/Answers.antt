@@ -5,8 +5,8 @@ use Rattle.writing.specs.Written.{masks_of}
 use Rattle.writing.proofs.Puts.{put_nothing, put_then}
 use Rattle.writing.proofs.records.put_masks.Goals as goal
 
-pub put-byte-next-requires : goal.put-byte-next-requires
-put-byte-next-requires g c =
+pub put_byte-next-requires : goal.put_byte-next-requires
+put_byte-next-requires g c =
     let long = length-map-range_with_len (g.C.Calendar.mask c.args.calendar.now) 0 c.loop-slot.slot in
     let place = c.loop-slot.invariant.place in
     let end = c.end-end.ensures.value in
@@ -20,9 +20,9 @@ pub loop-slot-preserved : goal.loop-slot-preserved
 loop-slot-preserved g c =
     let mask = g.C.Calendar.mask c.args.calendar.now in
     let slot = c.loop-slot.slot in
-    let out = c.put-byte-next.new.out in
-    let next = c.put-byte-next.result in
-    let one = subst (λ (m : ℕ). Put c.loop-slot.next (m ∷ []) c.loop-slot.out out next) c.mask.ensures.value c.put-byte-next.ensures.value in
+    let out = c.put_byte-next.new.out in
+    let next = c.put_byte-next.result in
+    let one = subst (λ (m : ℕ). Put c.loop-slot.next (m ∷ []) c.loop-slot.out out next) c.mask.ensures.value c.put_byte-next.ensures.value in
     subst (λ (l : List ℕ). Put c.args.at l c.args.out.now out next) (sym (map-range_with_len_more mask 0 slot slot (omega arith)))
     (put_then c.args.at c.loop-slot.next next (masks_of slot mask) (mask slot ∷ []) c.args.out.now c.loop-slot.out out (let h = c.requires.room in omega arith) c.loop-slot.invariant one)
 

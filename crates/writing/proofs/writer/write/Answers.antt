@@ -20,18 +20,18 @@ again g =
 pub returns-in-Some : goal.returns-in-Some
 returns-in-Some g c = record { cases = search rules; refused = search rules; reads = tt; again = again g }
 
-pub returns-then-out-sheet-length : goal.returns-then-out-sheet-length
-returns-then-out-sheet-length g c =
+pub returns-then-out-sheet_length : goal.returns-then-out-sheet_length
+returns-then-out-sheet_length g c =
     let w = g.W.OrderedWeight in
     let cal = g.C.Calendar in
     let rows = rows_in c.args.plan.now in
     let store = c.args.store.now in
     let same = c.rows-rows.ensures.value in
-    let good : StoreGood (heavier_then_lower w.no_lighter) rows store = subst (λ (rs : List Row). StoreGood (heavier_then_lower w.no_lighter) rs store) same c.in-default.ensures.cases in
+    let good : StoreGood (heavier_then_lower w.no_lighter) rows store = subst (λ (rs : List Row). StoreGood (heavier_then_lower w.no_lighter) rs store) same c.in_default.ensures.cases in
     let long = sheet_long w.code w.width w.encoding g.met.W.OrderedWeight.sized (cal.end c.args.calendar.now) (cal.mask c.args.calendar.now) rows store good.1.stored in
-    let count : c.sheet-length.result ≡ 7 + cal.end c.args.calendar.now + length rows * (9 + w.width) =
-    subst (λ (rs : List Row). c.sheet-length.result ≡ 7 + cal.end c.args.calendar.now + length rs * (9 + w.width)) same c.sheet-length.ensures.value in
-    let short = c.if-out-sheet-length.true in
+    let count : c.sheet_length.result ≡ 7 + cal.end c.args.calendar.now + length rows * (9 + w.width) =
+    subst (λ (rs : List Row). c.sheet_length.result ≡ 7 + cal.end c.args.calendar.now + length rs * (9 + w.width)) same c.sheet_length.ensures.value in
+    let short = c.if-out-sheet_length.true in
     record { cases = (good, omega arith); refused = search rules; reads = tt; again = again g }
 
 pub returns : goal.returns
@@ -42,12 +42,12 @@ returns g c =
     let mask = cal.mask c.args.calendar.now in
     let rows = rows_in c.args.plan.now in
     let store = c.args.store.now in
-    let out = c.put-sheet.new.out in
-    let n = c.put-sheet.result in
+    let out = c.put_sheet.new.out in
+    let n = c.put_sheet.result in
     let same = c.rows-rows.ensures.value in
-    let good : StoreGood (heavier_then_lower w.no_lighter) rows store = subst (λ (rs : List Row). StoreGood (heavier_then_lower w.no_lighter) rs store) same c.in-default.ensures.cases in
+    let good : StoreGood (heavier_then_lower w.no_lighter) rows store = subst (λ (rs : List Row). StoreGood (heavier_then_lower w.no_lighter) rs store) same c.in_default.ensures.cases in
     let put : Put 0 (written_sheet w.code w.encoding end mask rows store) c.args.out.now out n =
-    subst (λ (rs : List Row). Put 0 (written_sheet w.code w.encoding end mask rs store) c.args.out.now out n) same c.put-sheet.ensures.value in
+    subst (λ (rs : List Row). Put 0 (written_sheet w.code w.encoding end mask rs store) c.args.out.now out n) same c.put_sheet.ensures.value in
     let front = put_front (written_sheet w.code w.encoding end mask rows store) c.args.out.now out n put in
     record {
       cases = record { good = good; long = front.0; buffer = front.1 };
