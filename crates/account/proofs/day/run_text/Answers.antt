@@ -7,12 +7,12 @@ use Rattle.account.proofs.day.run_text.Goals as goal
 pub loop-answer-preserved : goal.loop-answer-preserved
 loop-answer-preserved c =
     let rest = c.loop-answer.rest.now in
-    let words = c.as-str.ensures.value ∙ c.in-ok-words.ensures in
+    let words = c.as_str.ensures.value ∙ c.in_ok-words.ensures in
     run_more (run_text c.args.text.now c.args.answers.now) c.args.answers.now c.loop-answer.answer-index (Ok (false, None))
-    (vec_items c.loop-answer.all) rest c.as-slice.result.now (vec_items c.extend-from-slice.new.self) c.next-line.result.1.now
+    (vec_items c.loop-answer.all) rest c.as_slice.result.now (vec_items c.extend_from_slice.new.self) c.next_line.result.1.now
     (omega arith) c.loop-answer.invariant
-    (c.as-slice.ensures.value ∙ c.in-ok-said.ensures ∙ ap (λ l. answered_line l c.as-str.result.now) c.next-line.ensures.line ∙ ap (answered_line (line_of rest)) words)
-    c.in-ok-extend-from-slice.ensures.items c.next-line.ensures.rest
+    (c.as_slice.ensures.value ∙ c.in_ok-said.ensures ∙ ap (λ l. answered_line l c.as_str.result.now) c.next_line.ensures.line ∙ ap (answered_line (line_of rest)) words)
+    c.in_ok-extend_from_slice.ensures.items c.next_line.ensures.rest
 
 pub returns : goal.returns
 returns c =

@@ -32,5 +32,5 @@ returns c =
     let text = c.args.text.now in
     let i = c.loop-digit.digit-index in
     let rest = drop_all i text (omega arith) in
-    let some = eqb-false (length text) 0 (sym c.if-is-empty.ensures) in
+    let some = eqb-false (length text) 0 (sym c.if-is_empty.ensures) in
     is_number c.args.most c.loop-digit.value text (omega arith) (c.loop-digit.invariant.1 ∙ ap digits rest) (c.loop-digit.invariant.2 ∙ ap (read_on c.loop-digit.value) rest) c.loop-digit.invariant.0

@@ -10,9 +10,9 @@ blank = record { number = 0; ready = 0; deadline = 0; seat = None }
 pub loop-row-preserved : goal.loop-row-preserved
 loop-row-preserved c =
     printed_more (rows_in c.args.plan.now) c.rows-row-items.result.now c.loop-row.row-index blank c.stretch.result
-    (string_bytes c.loop-row.text) (string_bytes c.in-ok-line.line) (string_bytes c.push-str.new.self)
-    (omega arith) c.loop-row.invariant c.stretch.ensures.value c.in-ok-line.ensures
-    (c.in-ok-push-str.ensures.bytes ∙ ap (λ l. string_bytes c.loop-row.text ++ l) c.as-str.ensures.value)
+    (string_bytes c.loop-row.text) (string_bytes c.in_ok-line.line) (string_bytes c.push_str.new.self)
+    (omega arith) c.loop-row.invariant c.stretch.ensures.value c.in_ok-line.ensures
+    (c.in_ok-push_str.ensures.bytes ∙ ap (λ l. string_bytes c.loop-row.text ++ l) c.as_str.ensures.value)
 
 pub returns : goal.returns
 returns c =

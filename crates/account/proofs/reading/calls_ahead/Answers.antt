@@ -12,8 +12,8 @@ loop-rest-preserved g c =
     let ne = eqb-false (length rest) 0 (sym c.loop-rest-test.ensures) in
     let some : 0 < length rest = omega arith in
     ahead_more g.W.WrittenWeight.figures g.W.WrittenWeight.figures_in (calls_ahead g.W.WrittenWeight.figures_in (lines_of c.args.text.now)) (vec_items c.loop-rest.calls) rest some c.loop-rest.invariant
-    c.in-Some.found c.in-Make.call (vec_items c.push.new.self) c.next-line.result.0.now c.next-line.result.1.now
-    c.next-line.ensures.line c.next-line.ensures.rest c.in-Make.is c.in-Some.ensures c.in-ok-push.ensures.items
+    c.in-Some.found c.in-Make.call (vec_items c.push.new.self) c.next_line.result.0.now c.next_line.result.1.now
+    c.next_line.ensures.line c.next_line.ensures.rest c.in-Make.is c.in-Some.ensures c.in_ok-push-in-Make.ensures.items
 
 pub returns : goal.returns
 returns g c =
@@ -28,7 +28,7 @@ returns-in-NoWeight g c =
     let ne = eqb-false (length rest) 0 (sym c.loop-rest-test.ensures) in
     let some : 0 < length rest = omega arith in
     ahead_other g.W.WrittenWeight.figures g.W.WrittenWeight.figures_in (calls_ahead g.W.WrittenWeight.figures_in (lines_of c.args.text.now)) (vec_items c.loop-rest.calls) rest some c.loop-rest.invariant
-    c.in-Some.found _ c.next-line.result.0.now c.next-line.ensures.line c.in-NoWeight.is c.in-Some.ensures refl
+    c.in-Some.found _ c.next_line.result.0.now c.next_line.ensures.line c.in-NoWeight.is c.in-Some.ensures refl
 
 pub returns-in-Ask : goal.returns-in-Ask
 returns-in-Ask g c =
@@ -36,12 +36,12 @@ returns-in-Ask g c =
     let ne = eqb-false (length rest) 0 (sym c.loop-rest-test.ensures) in
     let some : 0 < length rest = omega arith in
     ahead_other g.W.WrittenWeight.figures g.W.WrittenWeight.figures_in (calls_ahead g.W.WrittenWeight.figures_in (lines_of c.args.text.now)) (vec_items c.loop-rest.calls) rest some c.loop-rest.invariant
-    c.in-Some.found _ c.next-line.result.0.now c.next-line.ensures.line c.in-Ask.is c.in-Some.ensures refl
+    c.in-Some.found _ c.next_line.result.0.now c.next_line.ensures.line c.in-Ask.is c.in-Some.ensures refl
 
-pub returns-in-default : goal.returns-in-default
-returns-in-default g c =
+pub returns-in_default : goal.returns-in_default
+returns-in_default g c =
     let rest = c.loop-rest.rest.now in
     let ne = eqb-false (length rest) 0 (sym c.loop-rest-test.ensures) in
     let some : 0 < length rest = omega arith in
     ahead_end g.W.WrittenWeight.figures g.W.WrittenWeight.figures_in (calls_ahead g.W.WrittenWeight.figures_in (lines_of c.args.text.now)) (vec_items c.loop-rest.calls) rest some c.loop-rest.invariant
-    None c.next-line.result.0.now c.next-line.ensures.line c.in-default.ensures refl
+    None c.next_line.result.0.now c.next_line.ensures.line c.in_default.ensures refl
