@@ -3,7 +3,7 @@ use crate::sample::joined;
 use jobs::terms::Job;
 use sheets::reader::read;
 use std::alloc::Global;
-use std::fmt::Debug;
+use std::fmt::{Debug, Display};
 use std::process::Abort;
 use std::test::Fail;
 use weights::kind::OrderedWeight;
@@ -37,13 +37,14 @@ fn answer_of<W: OrderedWeight>(sheet: &[u8]) -> Answer {
     }
 }
 
-// The reader's answer for the kind W is this one.
+// The reader's answer for the kind W is this one; what the sheet is stands in the message of a test that fails.
 pub(crate) fn check_answer<W: OrderedWeight>(
     rt: &impl Abort,
+    what: impl Display + Copy,
     sheet: &[u8],
     answer: Answer,
 ) -> Result<(), Fail> {
-    assert_eq!(rt; answer_of::<W>(sheet), answer);
+    assert_eq!(rt; answer_of::<W>(sheet), answer, "{what}");
     Ok(())
 }
 
@@ -55,7 +56,7 @@ pub(crate) fn check_cases<W: OrderedWeight>(
 ) -> Result<(), Fail> {
     for case in cases {
         let sheet = joined(heap, case.records)?;
-        check_answer::<W>(rt, &sheet, case.answer).note(case.what)?;
+        check_answer::<W>(rt, case.what, &sheet, case.answer)?;
     }
     Ok(())
 }
@@ -63,17 +64,18 @@ pub(crate) fn check_cases<W: OrderedWeight>(
 // The sheet is read: with these masks and these jobs, and with no job behind them.
 pub(crate) fn check_read<W: OrderedWeight + PartialEq + Debug>(
     rt: &impl Abort,
+    what: impl Display + Copy,
     sheet: &[u8],
     masks: &[u8],
     jobs: &[Job<W>],
 ) -> Result<(), Fail> {
     let read = read::<W>(sheet)?;
-    assert_eq!(rt; read.masks(), masks);
-    assert_eq!(rt; read.job_count(), jobs.len());
+    assert_eq!(rt; read.masks(), masks, "{what}");
+    assert_eq!(rt; read.job_count(), jobs.len(), "{what}");
     for (k, job) in jobs.iter().enumerate() {
-        assert_eq!(rt; read.job(k), Some(*job));
+        assert_eq!(rt; read.job(k), Some(*job), "{what}");
     }
-    assert_eq!(rt; read.job(jobs.len()), None);
+    assert_eq!(rt; read.job(jobs.len()), None, "{what}");
     Ok(())
 }
 
@@ -86,5 +88,5 @@ pub(crate) fn check_records<W: OrderedWeight + PartialEq + Debug>(
     jobs: &[Job<W>],
 ) -> Result<(), Fail> {
     let sheet = joined(heap, records)?;
-    check_read::<W>(rt, &sheet, masks, jobs)
+    check_read::<W>(rt, "records", &sheet, masks, jobs)
 }
