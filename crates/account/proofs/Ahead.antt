@@ -3,7 +3,7 @@ use Rattle.std.proofs.Common.{◌≡◌, ℕ, ◌<◌, Bool, true, false, cond, 
 use Rattle.std.proofs.lemmas.List.{append-nil, append_assoc, map_push}
 use Rattle.calls.specs.declared.terms.Call.{Call}
 use Rattle.account.specs.declared.terms.Command.{Command}
-use Rattle.account.specs.declared.terms.Command.TheVariants.{Make, NoWeight, Ask}
+use Rattle.account.specs.declared.terms.Command.TheVariants.{Make}
 use Rattle.account.specs.Words.{behind, cut_at, line_from, rest_from, line_of, rest_of, on_first, lines_of}
 use Rattle.account.specs.Commands.{command_figures, call_figures, command_in, call_before, calls_ahead}
 

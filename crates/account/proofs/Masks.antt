@@ -1,6 +1,6 @@
 -- Masks read from the front of a list of them.
 use Rattle.std.proofs.Common.{◌≡◌, ℕ, Bool, true, false, cond, eqb, List, [], ◌∷◌, ◌++◌, Some, None, Option, sym, refl, ap, ◌∙◌}
-use Rattle.std.proofs.lemmas.List.{append-nil, append_assoc}
+use Rattle.std.proofs.lemmas.List.{append_assoc}
 use Rattle.account.specs.Numbers.{mask_of}
 use Rattle.account.specs.Weights.{and_then}
 use Rattle.account.specs.Words.{behind, cut_at, on_first}

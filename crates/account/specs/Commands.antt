@@ -6,7 +6,6 @@
 --   calls_ahead lines         the calls that begin the lines, up to the first line that is none
 use Rattle.std.specs.Prelude.{ℕ, cond, List, [], ◌∷◌, Some, None, codes, Option}
 use Rattle.std.specs.Str.{bytes_eq}
-use Rattle.jobs.specs.declared.terms.Job.{Job}
 use Rattle.calls.specs.declared.terms.Call.{Call}
 use Rattle.calls.specs.declared.terms.Call.TheVariants.{Offer, Withdraw, Reweigh}
 use Rattle.weights.specs.declared.fault.WeightFault.TheVariants as fault

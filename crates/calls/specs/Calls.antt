@@ -19,7 +19,7 @@ use Rattle.jobs.specs.declared.terms.Row.{Row}
 use Rattle.jobs.specs.declared.terms.Job.{Job}
 use Rattle.jobs.specs.declared.terms.TableFault.TheVariants.{NumberZero, NoWindow, NumberTaken, TableFull}
 use Rattle.jobs.specs.declared.terms.Standing.TheVariants.{Kept, Absent}
-use Rattle.placing.specs.Orders.{Weighs, RankOrder, Totals}
+use Rattle.placing.specs.Orders.{Weighs, RankOrder}
 use Rattle.placing.specs.Placing.{row}
 use Rattle.placing.specs.Plan.{Drawn, Stands}
 use Rattle.placing.specs.Promise.{Changed, OneOther, Heaviest}

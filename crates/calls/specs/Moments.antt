@@ -7,7 +7,7 @@
 --   Ordered before ..    the store has a weight for each row, and these put the rows in rank order
 --   PlanAt rules t m     at this moment rows and store are the plan of the table t
 --   SoundAt rules t m    and it is best, and each dropped job has its reason
-use Rattle.std.specs.Prelude.{◌≡◌, ℕ, ◌≤◌, Bool, List, length, take}
+use Rattle.std.specs.Prelude.{ℕ, ◌≤◌, Bool, List, length, take}
 use Rattle.jobs.specs.declared.terms.Row.{Row}
 use Rattle.jobs.specs.declared.terms.Job.{Job}
 use Rattle.placing.specs.Orders.{heavier_then_lower, earliest_then_lower}

@@ -3,7 +3,7 @@
 --   StretchOf rows n r           r is the stretch of the dropped job n, or why it has none
 --   kept_count, dropped_count      how many rows have a seat, and how many have none
 --   total_of_dropped nothing plus    the total of the dropped rows' weights
-use Rattle.std.specs.Prelude.{◌≡◌, ℕ, suc, ◌<◌, Bool, cond, List, [], ◌∷◌, length, is_some, Some, None, Ok, Err, Option, Result}
+use Rattle.std.specs.Prelude.{◌≡◌, ℕ, suc, ◌<◌, cond, List, [], ◌∷◌, length, is_some, Some, None, Ok, Err, Option, Result}
 use Rattle.jobs.specs.declared.terms.Row.{Row}
 use Rattle.jobs.specs.declared.terms.Seat.{Seat}
 use Rattle.jobs.specs.declared.terms.Standing.TheVariants as standings

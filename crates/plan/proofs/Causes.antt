@@ -1,5 +1,5 @@
 -- That no cause holds against a call, and what it has shown then. Assumes nothing.
-use Rattle.std.proofs.Common.{◌≡◌, ℕ, ◌<◌, Bool, List, length, refl, inl, inr, arith}
+use Rattle.std.proofs.Common.{ℕ, ◌<◌, Bool, List, length, refl, inl, inr, arith}
 use Rattle.std.proofs.lemmas.Bool.{cases_lt}
 use Rattle.jobs.specs.Admission.{Window}
 use Rattle.jobs.specs.declared.terms.Row.{Row}
@@ -12,7 +12,6 @@ use Rattle.calls.specs.declared.terms.Call.{Call}
 use Rattle.calls.specs.declared.terms.Call.TheVariants.{Offer}
 use Rattle.calls.specs.declared.terms.StoreFault.{StoreFault}
 use Rattle.calls.specs.declared.terms.StoreFault.TheVariants.{TooShort, OutOfRank}
-use Rattle.calls.specs.declared.terms.CallFault.{CallFault}
 use Rattle.calls.specs.declared.terms.CallFault.TheVariants.{Store, Table, NumberUnknown}
 use Rattle.calls.specs.Calls.{Cause, NoCause}
 use Rattle.calls.specs.Moments.{Moment, at}

@@ -1,13 +1,13 @@
 -- What a call shows of the moment after it makes it accepted. Assumes nothing.
-use Rattle.std.proofs.Common.{◌≡◌, ℕ, suc, ◌<◌, ◌≤◌, Bool, true, false, List, [], ◌∷◌, ◌++◌, length, get_or, take, drop, Some, None, Option, sym, refl, ap, ◌∙◌, subst, inl, inr, arith}
+use Rattle.std.proofs.Common.{◌≡◌, ℕ, suc, ◌<◌, ◌≤◌, Bool, true, List, [], ◌∷◌, ◌++◌, length, get_or, take, drop, Some, None, Option, sym, refl, ap, ◌∙◌, subst, arith}
 use Rattle.std.specs.List.{insert, remove}
 use Rattle.std.proofs.lemmas.List.Edits.{length-remove}
 use Rattle.jobs.specs.declared.terms.Row.{Row}
 use Rattle.jobs.specs.declared.terms.Job.{Job}
 use Rattle.jobs.specs.declared.terms.Standing.TheVariants.{Kept}
-use Rattle.placing.specs.Change.{OneMore, AtMostOne}
+use Rattle.placing.specs.Change.{AtMostOne}
 use Rattle.placing.specs.Orders.{Weighs}
-use Rattle.placing.specs.Placing.{row, SameJob, SameTable, Apart}
+use Rattle.placing.specs.Placing.{row, SameTable, Apart}
 use Rattle.placing.specs.Plan.{Drawn, Stands}
 use Rattle.placing.specs.Promise.{job_of, jobs_of, SameJobs, InRankOrder, OneOther}
 use Rattle.placing.proofs.Orders.{heavier_then_lower_ranks}

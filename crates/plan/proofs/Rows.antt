@@ -11,7 +11,7 @@ use Rattle.jobs.specs.declared.terms.Standing.TheVariants.{Absent}
 use Rattle.placing.specs.Placing.{Apart, blank, row}
 use Rattle.placing.specs.Plan.{Stands}
 use Rattle.jobs.specs.Admission.{Window}
-use Rattle.plan.specs.Rows.{Distinct, Windows, with_seat}
+use Rattle.plan.specs.Rows.{Distinct, with_seat}
 
 pub distinct_apart : (rows : List Row) → Distinct rows → Apart rows
 distinct_apart rows distinct i j l m e =

@@ -3,7 +3,7 @@ use Rattle.std.proofs.Common.{◌≡◌, ℕ, ◌<◌, Bool, true, false, List, 
 use Rattle.std.proofs.lemmas.List.{same_lists, get_or_default}
 use Rattle.jobs.specs.declared.terms.Row.{Row}
 use Rattle.jobs.specs.declared.terms.Seat.{Seat}
-use Rattle.placing.specs.Placing.{row, blank, SameJob}
+use Rattle.placing.specs.Placing.{row, blank}
 use Rattle.placing.proofs.Seats.{row_same}
 use Rattle.placing.specs.Orders.{earliest_then_lower}
 use Rattle.placing.specs.Plan.{Drawn}

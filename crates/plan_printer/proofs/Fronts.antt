@@ -1,6 +1,6 @@
 -- A text that stands at a buffer's front, cut off the buffer. Assumes nothing.
-use Rattle.std.proofs.Common.{◌≡◌, ℕ, ◌≤◌, List, ◌++◌, length, take, drop, ap, ◌∙◌}
-use Rattle.std.proofs.lemmas.List.{take-take, take-append-le, append_assoc}
+use Rattle.std.proofs.Common.{◌≡◌, ℕ, ◌≤◌, List, ◌++◌, length, take, ap, ◌∙◌}
+use Rattle.std.proofs.lemmas.List.{take-take, append_assoc}
 use Rattle.std.proofs.Math.Seq.{take-append_seam}
 
 pub front_cut : (n m : ℕ) (text rest before out : List ℕ) → n ≡ length text → n ≤ m → out ≡ text ++ rest → take n (take m (out ++ before)) ≡ text

@@ -1,11 +1,11 @@
 -- The records of some jobs, one after the other: how long they are, what the first says, one more at the end.
-use Rattle.std.proofs.Common.{◌≡◌, ℕ, zero, suc, ◌+◌, ◌-◌, ◌*◌, ◌/◌, ◌%◌, ◌<◌, ◌≤◌, Bool, true, false, ◌||◌, eqb, List, [], ◌∷◌, ◌++◌, length, get_or, take, drop, Some, None, Option, sym, refl, ap, ◌∙◌, subst, suc-mul, zero-mul, arith, MatchOption}
-use Rattle.std.proofs.lemmas.List.{append_assoc, drop_at, drop-drop, take_at, length-append}
+use Rattle.std.proofs.Common.{◌≡◌, ℕ, zero, suc, ◌+◌, ◌-◌, ◌*◌, ◌/◌, ◌%◌, ◌<◌, ◌≤◌, true, false, eqb, List, [], ◌∷◌, length, get_or, take, drop, Some, None, Option, sym, refl, ap, ◌∙◌, subst, suc-mul, zero-mul, arith, MatchOption}
+use Rattle.std.proofs.lemmas.List.{drop_at, drop-drop, take_at, length-append}
 use Rattle.std.proofs.lemmas.Bool.{eq-eqb, ne_eqb}
 use Rattle.jobs.specs.declared.terms.Job.{Job}
 use Rattle.jobs.specs.Admission.{taken}
 use Rattle.jobs.specs.Lists.{nth}
-use Rattle.sheets.specs.Format.{two, record_bytes, job_value, job_records, JobAt}
+use Rattle.sheets.specs.Format.{record_bytes, job_value, job_records, JobAt}
 
 module _ {W : Type 0} (encoding : W → List ℕ) (width : ℕ) (sized : (w : W) → length (encoding w) ≡ width) where
   pub value_long : (job : Job W) → length (job_value encoding job) ≡ 6 + width

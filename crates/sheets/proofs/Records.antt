@@ -1,7 +1,7 @@
 -- Records by their bytes.
-use Rattle.std.proofs.Common.{◌≡◌, ℕ, ◌+◌, ◌-◌, ◌*◌, ◌/◌, ◌%◌, ◌<◌, ◌≤◌, List, [], ◌∷◌, ◌++◌, length, get_or, take, drop, sym, refl, ap, ◌∙◌, arith}
+use Rattle.std.proofs.Common.{◌≡◌, ℕ, ◌+◌, ◌-◌, ◌*◌, ◌/◌, ◌%◌, ◌<◌, ◌≤◌, List, [], ◌∷◌, ◌++◌, length, get_or, take, drop, sym, ap, ◌∙◌, arith}
 use Rattle.std.proofs.lemmas.List.{length-take-le, take-append-drop}
-use Rattle.sheets.specs.Format.{two, record_bytes, tag_of, length_of, Framed}
+use Rattle.sheets.specs.Format.{two, tag_of, length_of, Framed}
 
 -- a header that says what is wanted, with enough bytes behind it, begins a whole record
 pub framed : (wanted least most n : ℕ) (rest : List ℕ) → 3 ≤ length rest → tag_of rest ≡ wanted → get_or rest 2 0 < 256 → n ≡ length_of rest

@@ -1,5 +1,5 @@
 -- The reader's answers at one job record, from what its parts answer.
-use Rattle.std.proofs.Common.{◌≡◌, ℕ, ◌+◌, ◌-◌, ◌<◌, ◌≤◌, Bool, ◌⊎◌, List, [], ◌∷◌, ◌++◌, length, take, drop, sym, refl, ap, ◌∙◌, subst, inl, inr, ⊎_elim, arith}
+use Rattle.std.proofs.Common.{◌≡◌, ℕ, ◌+◌, ◌-◌, ◌<◌, Bool, ◌⊎◌, List, [], ◌∷◌, ◌++◌, length, take, drop, sym, refl, ap, ◌∙◌, subst, inl, inr, ⊎_elim, arith}
 use Rattle.std.proofs.lemmas.List.{append-nil, append_assoc, take_rest, take_at, take-append-drop, drop_at, drop-drop, length-append, length-drop, length_push, length-take-le}
 use Rattle.jobs.specs.declared.terms.Job.{Job}
 use Rattle.jobs.specs.declared.terms.TableFault.{TableFault}

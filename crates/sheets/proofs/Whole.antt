@@ -1,11 +1,11 @@
 -- The whole sheet, from its kind record, its calendar record and its job records.
-use Rattle.std.proofs.Common.{◌≡◌, ℕ, ◌+◌, ◌-◌, ◌<◌, ◌≤◌, List, [], ◌∷◌, ◌++◌, length, take, drop, sym, refl, ap, ◌∙◌, subst, inl, inr, arith}
+use Rattle.std.proofs.Common.{◌≡◌, ℕ, ◌+◌, ◌-◌, ◌≤◌, List, [], ◌∷◌, ◌++◌, length, take, drop, sym, refl, ap, ◌∙◌, subst, inl, inr, arith}
 use Rattle.std.proofs.lemmas.List.{append_assoc, take_rest, take-append-drop, drop_at, drop-drop, length-append, length-drop, length-take-le}
 use Rattle.sheets.specs.declared.fault.SheetFault.{SheetFault}
 use Rattle.sheets.specs.declared.fault.LoadFault.{LoadFault}
 use Rattle.sheets.specs.declared.fault.LoadFault.TheVariants.{Sheet}
 use Rattle.sheets.specs.Faults.{load_fault_byte}
-use Rattle.sheets.specs.Format.{record_bytes, job_records, kind_record, Framed, FrameFault, sheet_bytes, Accepted, Refused}
+use Rattle.sheets.specs.Format.{record_bytes, job_records, kind_record, Framed, FrameFault, Accepted, Refused}
 use Rattle.sheets.specs.Steps.{JobsRead, JobsRefused}
 
 -- the kind record has the code, and the calendar's masks follow

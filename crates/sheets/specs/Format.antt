@@ -13,7 +13,7 @@
 --   Accepted                       a sheet that is read, with its masks and the bytes of its job records
 --   Refused                        a sheet that is refused, with its first fault: at its kind, its calendar or a job
 --   JobAt                          the job whose value stands in the k-th of some records
-use Rattle.std.specs.Prelude.{◌≡◌, ℕ, ◌+◌, ◌-◌, ◌*◌, ◌/◌, ◌%◌, ◌<◌, ◌≤◌, ◌⊎◌, List, [], ◌∷◌, ◌++◌, length, take, drop, Some, ◌≢◌, slice_index}
+use Rattle.std.specs.Prelude.{◌≡◌, ℕ, ◌+◌, ◌-◌, ◌*◌, ◌/◌, ◌%◌, ◌<◌, ◌≤◌, ◌⊎◌, List, [], ◌∷◌, ◌++◌, length, take, drop, ◌≢◌, slice_index}
 use Rattle.jobs.specs.declared.terms.Job.{Job}
 use Rattle.jobs.specs.Admission.{RefusedFor, taken, Admitted}
 use Rattle.sheets.specs.declared.fault.LoadFault.{LoadFault}

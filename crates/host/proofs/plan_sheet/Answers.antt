@@ -1,4 +1,4 @@
-use Rattle.std.proofs.Common.{◌≡◌, ℕ, ◌^◌, ◌<◌, ◌≤◌, ◌++◌, length, drop, pos, sym, ap, ◌∙◌, subst, inl, arith, length-append, w64}
+use Rattle.std.proofs.Common.{◌≡◌, ◌≤◌, ◌++◌, length, drop, pos, ap, ◌∙◌, inl, arith, length-append, w64}
 use mir.Facts.{to_z_pos}
 use Rattle.host.proofs.plan_sheet.Goals as goal
 

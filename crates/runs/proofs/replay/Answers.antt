@@ -3,7 +3,7 @@ use Rattle.std.proofs.lemmas.List.{take_more, take_more_set, drop-set-lt, drop-d
 use Rattle.jobs.specs.declared.terms.Job.{Job}
 use Rattle.placing.specs.Orders.{Weighs}
 use Rattle.placing.proofs.Orders.{heavier_then_lower_ranks}
-use Rattle.calls.specs.Calls.{Run, Promised}
+use Rattle.calls.specs.Calls.{Run}
 use Rattle.calls.specs.Moments.{in_force, at, PlanAt}
 use Rattle.calls.proofs.Runs.{starts, run_more, run_promised}
 use Rattle.plan.specs.Plans.{rows_in}

@@ -1,4 +1,4 @@
-use Rattle.std.proofs.Common.{false, ◌++◌, get_or, None, Ok, vec_items, ap, ◌∙◌, arith}
+use Rattle.std.proofs.Common.{false, None, Ok, vec_items, ap, ◌∙◌, arith}
 use Rattle.account.specs.Words.{line_of}
 use Rattle.account.specs.Texts.{answered_line, run_text}
 use Rattle.account.proofs.Runs.{run_more, run_all}

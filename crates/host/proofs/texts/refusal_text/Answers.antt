@@ -1,4 +1,4 @@
-use Rattle.std.proofs.Common.{◌≡◌, ◌≤◌, IfOk, Ok, Err, Result, ap, ◌∙◌, sym, arith}
+use Rattle.std.proofs.Common.{◌≤◌, IfOk, Ok, Err, Result, ap, ◌∙◌, arith}
 use Rattle.text.specs.declared.fault.BufferFault.{BufferFault}
 use Rattle.text.specs.Printing.{refusal_line}
 use Rattle.host.specs.declared.terms.SheetText.{SheetText}

@@ -1,5 +1,4 @@
-use Rattle.std.proofs.Common.{◌≡◌, ℕ, ◌+◌, ◌<◌, ◌≤◌, length, drop, sym, refl, ap, ◌∙◌, subst, arith, rules}
-use Rattle.std.proofs.lemmas.List.{places}
+use Rattle.std.proofs.Common.{◌≡◌, ℕ, ◌+◌, ◌<◌, ◌≤◌, length, drop, sym, refl, ◌∙◌, subst, arith}
 use Rattle.placing.specs.Orders.{heavier_then_lower}
 use Rattle.plan.specs.Plans.{rows_in}
 use Rattle.plan.specs.Tables.{rows_of}

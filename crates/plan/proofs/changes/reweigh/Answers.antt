@@ -1,8 +1,7 @@
-use Rattle.std.proofs.Common.{◌≡◌, ℕ, ◌+◌, ◌-◌, ◌<◌, ◌≤◌, List, length, drop, sym, ap, ◌∙◌, subst, arith}
+use Rattle.std.proofs.Common.{◌≡◌, ℕ, ◌+◌, ◌-◌, ◌<◌, ◌≤◌, length, drop, sym, ap, ◌∙◌, subst, arith}
 use Rattle.std.specs.List.{insert}
 use Rattle.std.proofs.lemmas.List.{drop-drop}
 use Rattle.placing.specs.Orders.{heavier_then_lower}
-use Rattle.placing.specs.Placing.{row}
 use Rattle.placing.specs.Promise.{job_of}
 use Rattle.calls.specs.Moments.{jobs_in}
 use Rattle.calls.specs.declared.terms.Call.TheVariants.{Reweigh}

@@ -1,4 +1,4 @@
-use Rattle.std.proofs.Common.{true, false, refl, ap, ◌∙◌, inr, arith}
+use Rattle.std.proofs.Common.{true, false, refl, ap, ◌∙◌, arith}
 use Rattle.calls.specs.Moments.{at}
 use Rattle.plan.specs.Plans.{rows_in}
 use Rattle.plan.proofs.Loads.{loaded}

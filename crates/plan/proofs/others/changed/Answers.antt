@@ -1,4 +1,4 @@
-use Rattle.std.proofs.Common.{◌≡◌, ◌<◌, true, length, is_some, sym, refl, ap, ◌∙◌, subst, arith, rules}
+use Rattle.std.proofs.Common.{◌<◌, length, is_some, refl, ap, ◌∙◌, subst, rules}
 use Rattle.std.proofs.lemmas.List.{places}
 use Rattle.jobs.specs.declared.terms.Standing.TheVariants.{Absent}
 use Rattle.placing.specs.Plan.{Stands}

@@ -1,4 +1,4 @@
-use Rattle.std.proofs.Common.{◌≡◌, sym, refl, ap, ◌∙◌, subst, arith, rules}
+use Rattle.std.proofs.Common.{sym, ap, subst, arith}
 use Rattle.placing.specs.Promise.{Changed}
 use Rattle.plan.specs.Tables.{rows_of}
 use Rattle.plan.proofs.Standings.{no_other}

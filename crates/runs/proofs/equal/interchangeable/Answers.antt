@@ -1,4 +1,4 @@
-use Rattle.std.proofs.Common.{◌≡◌, ℕ, Bool, true, false, Decides, refl}
+use Rattle.std.proofs.Common.{Bool, true, false, Decides, refl}
 use Rattle.std.proofs.lemmas.Bool.{both_ways}
 use Rattle.placing.specs.Orders.{Weighs, earliest_then_lower, heavier_then_lower}
 use Rattle.placing.proofs.Orders.{heavier_then_lower_ranks, earliest_then_lower_serves}

@@ -1,4 +1,4 @@
-use Rattle.std.proofs.Common.{sym, ◌∙◌, inr, arith, rules}
+use Rattle.std.proofs.Common.{sym, ◌∙◌, inr, arith}
 use Rattle.std.proofs.lemmas.List.{take_rest}
 use Rattle.sheets.proofs.Records.{three_numbers}
 use Rattle.sheets.proofs.job_record.job_of.Goals as goal

@@ -1,4 +1,4 @@
-use Rattle.std.proofs.Common.{refl, arith, rules}
+use Rattle.std.proofs.Common.{refl, arith}
 use Rattle.text.proofs.Decimals.{found_none, found_room, found_more, found_all}
 use Rattle.text.proofs.putting.put_number.Goals as goal
 

@@ -1,4 +1,4 @@
-use Rattle.std.proofs.Common.{◌≡◌, length, sym, subst, rules}
+use Rattle.std.proofs.Common.{sym, subst, rules}
 use Rattle.std.proofs.lemmas.List.{places}
 use Rattle.placing.specs.Orders.{earliest_then_lower}
 use Rattle.placing.specs.Placing.{SameTable}

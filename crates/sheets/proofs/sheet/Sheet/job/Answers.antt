@@ -1,4 +1,4 @@
-use Rattle.std.proofs.Common.{◌≡◌, ℕ, ◌+◌, List, subst, MatchOption}
+use Rattle.std.proofs.Common.{◌+◌, subst, MatchOption}
 use Rattle.sheets.specs.Format.{JobAt}
 use Rattle.sheets.proofs.JobRecords.{nth_at}
 use Rattle.sheets.proofs.sheet.Sheet.job.Goals as goal
