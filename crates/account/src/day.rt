@@ -2,8 +2,8 @@
 ghost use Rattle.std.specs.Prelude.{◌≡◌, IfOk, vec_len};
 ghost use Rattle.account.specs.Texts.{run_text};
 
+use crate::asking::question_text;
 use crate::output::{end_at, put, say_refused};
-use crate::questions::question_text;
 use crate::reading::{calls_ahead, command};
 use crate::tally::TalliedWeight;
 use crate::terms::{Command, Question};

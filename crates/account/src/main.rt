@@ -3,10 +3,10 @@
 
 ghost use Rattle.std.specs.Prelude.{◌≤◌, length, IfOk};
 
+mod asking;
 mod day;
 mod numbers;
 mod output;
-mod questions;
 mod reading;
 mod settings;
 mod stages;

@@ -2,7 +2,7 @@ use Rattle.std.proofs.Common.{◌++◌, None, string_bytes, ap, ◌∙◌, arith
 use Rattle.jobs.specs.declared.terms.Row.{Row}
 use Rattle.plan.specs.Plans.{rows_in}
 use Rattle.account.proofs.Printing.{printed_more, printed_all}
-use Rattle.account.proofs.questions.plan_text.Goals as goal
+use Rattle.account.proofs.asking.plan_text.Goals as goal
 
 abbrev blank : Row
 blank = record { number = 0; ready = 0; deadline = 0; seat = None }

@@ -1,7 +1,7 @@
 use Rattle.std.proofs.Common.{take, string_bytes}
 use Rattle.plan.specs.Plans.{rows_in}
 use Rattle.account.specs.Answers.{Printed}
-use Rattle.account.proofs.questions.plan_text.Given as goal
+use Rattle.account.proofs.asking.plan_text.Given as goal
 
 -- a line for each of the first rows
 abbrev pub invariant-loop-row : goal.invariant-loop-row
