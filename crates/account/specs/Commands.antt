@@ -1,9 +1,9 @@
 -- What a line of a script commands. Weights stand as their figures; `figures_in` says which figures a text writes. Assumes nothing.
---   offer_in, reweigh_in       a call with a weight, from what follows its name
---   named_in name text        the command of that name, from what follows the name
---   command_in line           the command of a line
---   command_figures           a command, with the figures of its weight
---   calls_ahead lines         the calls that begin the lines, up to the first line that is none
+--   offer_in, reweigh_in    a call with a weight, from what follows its name
+--   named_in name text      the command of that name, from what follows the name
+--   command_in line         the command of a line
+--   command_figures         a command, with the figures of its weight
+--   calls_ahead lines       the calls that begin the lines, up to the first line that is none
 use Rattle.std.specs.Prelude.{ℕ, cond, List, [], ◌∷◌, Some, None, codes, Option}
 use Rattle.std.specs.Str.{bytes_eq}
 use Rattle.calls.specs.declared.terms.Call.{Call}

@@ -1,6 +1,6 @@
 -- Numbers as a script writes them. Assumes nothing.
---   digit c             the byte is one of 0 to 9
---   numeral ds          the text is one digit or more, and nothing else
+--   digit c              the byte is one of 0 to 9
+--   numeral ds           the text is one digit or more, and nothing else
 --   read_on v ds         the number that the digits ds write behind those of v
 --   number_of most ds    the number that a numeral writes, where it is at most `most`
 --   hex_of c             what a hexadecimal digit is worth

@@ -1,12 +1,12 @@
 -- The text of each answer. Assumes nothing.
---   refused_text n          a refusal
---   answer_text answer      what a call answers
---   standing_text s         kept, dropped or absent
---   seat_text seat          a slot and a link, or none
---   stretch_text s          a stretch, or why there is none
---   row_line row stretch    a line of the printed plan
---   answered_line line answer   a command as it stands, and its answer
---   run_text text answers   the calls whose lines begin the text, each with its answer
+--   refused_text n               a refusal
+--   answer_text answer           what a call answers
+--   standing_text s              kept, dropped or absent
+--   seat_text seat               a slot and a link, or none
+--   stretch_text s               a stretch, or why there is none
+--   row_line row stretch         a line of the printed plan
+--   answered_line line answer    a command as it stands, and its answer
+--   run_text text answers        the calls whose lines begin the text, each with its answer
 use Rattle.std.specs.Prelude.{ℕ, Bool, true, false, List, [], ◌∷◌, ◌++◌, Some, None, Ok, Err, codes, decimal, Option, Result, slice_index}
 use Rattle.jobs.specs.declared.terms.Row.{Row}
 use Rattle.jobs.specs.declared.terms.Seat.{Seat}

@@ -2,7 +2,7 @@
 --   EvenFault links end fault        the fault's cause holds of an even calendar, and none that is checked before it
 --   ListedFault slots fault          the same of a list of that many slots
 --   StretchFault first past fault    the same of a closed stretch
---   calendar_fault_number              the refusal's number: 16, whatever the cause
+--   calendar_fault_number            the refusal's number: 16, whatever the cause
 use Rattle.std.specs.Prelude.{ℕ, ◌<◌, ◌≤◌}
 use Rattle.calendars.specs.declared.fault.CalendarFault.{CalendarFault}
 use Rattle.calendars.specs.declared.fault.CalendarFault.TheVariants.{TooManyLinks, TooLong, Backwards, PastLastSlot}

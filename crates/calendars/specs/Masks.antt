@@ -5,8 +5,8 @@
 --   carried_mask end mask s                 the masks of a calendar below; from its end up to slot 1,023 that of its last slot, 0 if it has none
 --   closed_mask first past links mask s     the masks of a calendar below; the slots first .. past - 1 lose the links of the mask `links`
 --   link_open mask link                     1 where the link is open in the slot's mask, else 0
---   EvenlyOpen links end mask              link by link: open are the links below `links` in the slots below the end, and no other
---   ClosedIn first past links below mask   link by link: in the stretch a link is open where it is below and is not in `links`; other slots are as below
+--   EvenlyOpen links end mask               link by link: open are the links below `links` in the slots below the end, and no other
+--   ClosedIn first past links below mask    link by link: in the stretch a link is open where it is below and is not in `links`; other slots are as below
 use Rattle.std.specs.Prelude.{◌≡◌, ℕ, ◌-◌, ◌/◌, ◌%◌, ◌^◌, ◌<◌, ◌≤◌, min, cond, ◌&&◌, List, length, ◌==◌, bit_and, nat_lt, slice_index}
 
 abbrev pub even_mask : (links end s : ℕ) → ℕ

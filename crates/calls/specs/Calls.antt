@@ -1,6 +1,6 @@
 -- One call, and every run of calls. Assumes nothing.
 --   named c                        the number that the call names
---   table_after c t                 the table after an accepted call: one job more, one less, or one with another weight
+--   table_after c t                the table after an accepted call: one job more, one less, or one with another weight
 --   StoreCause, Cause              the causes for which a call is refused
 --   turn f                         when a call checks for the cause: the lower first
 --   FirstCause before c m f        the cause holds, and none that is checked before it
@@ -8,7 +8,7 @@
 --   FirstOther before after n o    o is the first in rank order, but for the number n, whose standing differs; None where there is none
 --   Accepted, Outcome              what a call answers and leaves, whatever the plan, the calendar and the store were
 --   Run rules m cs rs n            calls with their answers lead from m to n, one after the other
---   table_run cs rs t               the table that the accepted calls make of t
+--   table_run cs rs t              the table that the accepted calls make of t
 --   Promised rules t m cs rs n     the whole promise over a run: at each moment the plan of the table then, best and with its reasons,
 --                                  and from each to the next at most one other changed its standing
 --   Starts, RunPromised            a newly opened plan is the plan of the empty table; a run that begins with the plan of a table keeps the whole promise

@@ -1,12 +1,12 @@
 -- A plan with the weight store beside it, at one moment, and the rules that are in force. Assumes nothing.
---   Rules W              which weight is no lighter, who ranks before whom, who is seated first, and the masks of the calendar
+--   Rules W               which weight is no lighter, who ranks before whom, who is seated first, and the masks of the calendar
 --   in_force              the rules in force: heavier first and then the lower number; earliest deadline first and then the lower number
---   Moment W, at         the rows of a plan, in rank order, and what the store holds
+--   Moment W, at          the rows of a plan, in rank order, and what the store holds
 --   jobs_in rows store    the rows with the weights that the store has for them, as jobs
 --   table_at m            the table that a moment shows
---   Ordered before ..    the store has a weight for each row, and these put the rows in rank order
---   PlanAt rules t m     at this moment rows and store are the plan of the table t
---   SoundAt rules t m    and it is best, and each dropped job has its reason
+--   Ordered before ..     the store has a weight for each row, and these put the rows in rank order
+--   PlanAt rules t m      at this moment rows and store are the plan of the table t
+--   SoundAt rules t m     and it is best, and each dropped job has its reason
 use Rattle.std.specs.Prelude.{ℕ, ◌≤◌, Bool, List, length, take}
 use Rattle.jobs.specs.declared.terms.Row.{Row}
 use Rattle.jobs.specs.declared.terms.Job.{Job}

@@ -1,7 +1,7 @@
 -- What the questions about a plan answer. Assumes nothing.
---   SeatOf rows n s              s is the seat of the job with the number n, or None where it has none or is not in the table
---   StretchOf rows n r           r is the stretch of the dropped job n, or why it has none
---   kept_count, dropped_count      how many rows have a seat, and how many have none
+--   SeatOf rows n s                  s is the seat of the job with the number n, or None where it has none or is not in the table
+--   StretchOf rows n r               r is the stretch of the dropped job n, or why it has none
+--   kept_count, dropped_count        how many rows have a seat, and how many have none
 --   total_of_dropped nothing plus    the total of the dropped rows' weights
 use Rattle.std.specs.Prelude.{◌≡◌, ℕ, suc, ◌<◌, cond, List, [], ◌∷◌, length, is_some, Some, None, Ok, Err, Option, Result}
 use Rattle.jobs.specs.declared.terms.Row.{Row}

@@ -1,13 +1,13 @@
 -- Who is kept, and why no other choice keeps more. Jobs are numbered in rank order. Assumes nothing.
---   adding kept i            the jobs kept before i, and i
---   Greedy b t kept          job after job is kept exactly where it has a place beside those kept before it
+--   adding kept i                 the jobs kept before i, and i
+--   Greedy b t kept               job after job is kept exactly where it has a place beside those kept before it
 --   ChoiceExists, ChoiceUnique    there is one such choice, and one alone
---   KeptArePlaced            the kept jobs have a placing together
---   DroppedHasFullRun        a dropped job's window lies in a run of slots that the jobs kept before it fill, in every placing of them and of any others
---   Reasoned b t T K s       s is a placing of K, and each job of T outside K has its window in a run of slots whose free places are all seats of
---                            jobs of K with their windows in the run
---   ReasonedIsLargest        then no placing of jobs of T has more jobs than K, however K was found
---   KeepsMost                so no placing has more jobs than the choice among the first m jobs, for each m
+--   KeptArePlaced                 the kept jobs have a placing together
+--   DroppedHasFullRun             a dropped job's window lies in a run of slots that the jobs kept before it fill, in every placing of them and of any others
+--   Reasoned b t T K s            s is a placing of K, and each job of T outside K has its window in a run of slots whose free places are all seats of
+--                                 jobs of K with their windows in the run
+--   ReasonedIsLargest             then no placing of jobs of T has more jobs than K, however K was found
+--   KeepsMost                     so no placing has more jobs than the choice among the first m jobs, for each m
 use Rattle.std.specs.Prelude.{◌≡◌, ℕ, ◌<◌, ◌≤◌, Bool, true, false, ◌&&◌, ◌||◌, ◌==◌, nat_lt}
 use Rattle.dealing.specs.Counting.{count}
 use Rattle.dealing.specs.Boards.{Table, Board, Placing}

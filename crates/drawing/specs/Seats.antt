@@ -1,10 +1,10 @@
 -- Open places, numbered one after the other, as links of slots. Assumes nothing.
---   SeatAt mask p seat                open place p is this seat: the link is open, and p open places come before it
---   Once places n k                   no row below k sits at two of the first n places
---   SeatsRead mask places seats p     the rows at the places below p have their seats, and the others none
---   open_at mask w                     the w-th link of all, eight to a slot, is open
---   open_before mask w                 how many open links come before it
---   row_at mask k places w             the row that sits at it, or k
+--   SeatAt mask p seat               open place p is this seat: the link is open, and p open places come before it
+--   Once places n k                  no row below k sits at two of the first n places
+--   SeatsRead mask places seats p    the rows at the places below p have their seats, and the others none
+--   open_at mask w                   the w-th link of all, eight to a slot, is open
+--   open_before mask w               how many open links come before it
+--   row_at mask k places w           the row that sits at it, or k
 use Rattle.std.specs.Prelude.{◌≡◌, ℕ, ◌+◌, ◌/◌, ◌%◌, ◌^◌, ◌<◌, Bool, cond, List, length, None, Option, MatchOption, ◌==◌, count_ones, slice_index, slice_index_or}
 use Rattle.calendars.specs.Places.{opens}
 use Rattle.jobs.specs.declared.terms.Seat.{Seat}

@@ -1,9 +1,9 @@
 -- The open places of a calendar alone, numbered slot after slot. Assumes nothing.
---   counts s             how many open places lie in the slots below s
+--   counts s              how many open places lie in the slots below s
 --   slot_by counts n p    the slot of place p: how many of the first n slots end at or before it
---   slot_rising          later places lie in no earlier slot
+--   slot_rising           later places lie in no earlier slot
 --   board_by counts       the open places of 1,024 slots as a board, all of them free
---   Numbered counts      the counts begin with 0 and never fall
+--   Numbered counts       the counts begin with 0 and never fall
 use Rattle.std.specs.Prelude.{◌≡◌, ℕ, suc, ◌+◌, ◌<◌, ◌≤◌, true, List, length, nat_le, slice_index, slice_index_or}
 use Rattle.std.proofs.Common.{arith}
 use Rattle.std.proofs.lemmas.Bool.{leb-true, le-leb}

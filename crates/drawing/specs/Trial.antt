@@ -1,11 +1,11 @@
 -- The trial of a row among the rows that have places already. Assumes nothing.
---   order rows                     the order of service in force, by rank
---   seat_of places p                the row that sits at open place p, or `length rows` or more: nobody
---   start rows counts x            the first open place of the window of row x
---   carried_in, settled_in, PassedIn, SucceedsIn, FailsIn     the walk of a trial, over these rows, counts and places
---   below kept x                   the rows kept before row x
---   DealtToAll rows counts K places    the places are dealt to the rows of K in the order of service, and each of them has one
---   Chosen rows counts places          so they are dealt to the rows that are kept in turn
+--   order rows                                               the order of service in force, by rank
+--   seat_of places p                                         the row that sits at open place p, or `length rows` or more: nobody
+--   start rows counts x                                      the first open place of the window of row x
+--   carried_in, settled_in, PassedIn, SucceedsIn, FailsIn    the walk of a trial, over these rows, counts and places
+--   below kept x                                             the rows kept before row x
+--   DealtToAll rows counts K places                          the places are dealt to the rows of K in the order of service, and each of them has one
+--   Chosen rows counts places                                so they are dealt to the rows that are kept in turn
 use Rattle.std.specs.Prelude.{◌≡◌, ℕ, ◌<◌, Bool, true, ◌&&◌, List, length, nat_lt, slice_index}
 use Rattle.jobs.specs.declared.terms.Row.{Row}
 use Rattle.dealing.specs.Dealing.{DealtInOrder}

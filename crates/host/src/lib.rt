@@ -82,8 +82,7 @@ pub fn sheet_text(sheet: &[u8], out: &mut [u8]) -> Result<SheetText, BufferFault
 }
 
 // The same for a host written in C: the length of the text, or −15 and an untouched buffer if it does not fit.
-#[unsafe(no_mangle)]
-pub extern "C" fn plan_sheet(sheet: &[u8], out: &mut [u8]) -> i64
+pub fn plan_sheet(sheet: &[u8], out: &mut [u8]) -> i64
     ensures cases { (refused : Bool) × ((text : List ℕ) × TextFor sheet.now refused text × Answered text out.old out.new result) }
     ensures alone { SheetTextOnce }
 {

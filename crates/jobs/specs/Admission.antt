@@ -4,8 +4,8 @@
 --   RefusedFor .. fault      the fault's cause holds, and none that is checked before it
 --   taken number jobs        whether one of the jobs has the number
 --   Admitted before jobs     a table that holds the jobs `before` takes these too, one after the other
---   table_fault_number         the refusal's number
---   table_fault_job            the number of the job that was refused
+--   table_fault_number       the refusal's number
+--   table_fault_job          the number of the job that was refused
 use Rattle.std.specs.Prelude.{◌≡◌, ℕ, ◌<◌, ◌≤◌, Bool, true, false, ◌||◌, List, [], ◌∷◌, ◌++◌, length, ◌==◌}
 use Rattle.jobs.specs.declared.terms.Job.{Job}
 use Rattle.jobs.specs.declared.terms.TableFault.{TableFault}

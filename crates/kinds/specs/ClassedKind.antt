@@ -1,9 +1,9 @@
 -- Classed weights as a kind: the higher class is heavier, then more points; a total is a sum for each class. Assumes nothing.
 --   classed_encoding w        the class's level in a byte, then the points in two
---   classed_no_lighter v w     v is of a higher class than w, or of the same class with at least as many points
---   lex_at_least xs ys         where xs and ys first differ, xs has the greater
+--   classed_no_lighter v w    v is of a higher class than w, or of the same class with at least as many points
+--   lex_at_least xs ys        where xs and ys first differ, xs has the greater
 --   added_at xs i n           the list xs with n added at place i
---   Each32 xs                32 bits hold each of xs
+--   Each32 xs                 32 bits hold each of xs
 --   classed_nothing           five sums of none, from class D down
 --   classed_plus t w          the sums t with the points of w added to its class
 --   classed_over s t          the sums s are at least t, compared from class D down

@@ -1,10 +1,10 @@
 -- Points as a kind of weight: more points are heavier, and a total is the sum. Assumes nothing.
---   points_encoding p         the points in four bytes
---   points_no_lighter p q      p has at least as many points as q
---   points_nothing            the sum of none
---   points_plus t p           the sum t with p added
---   points_over s t           the sum s is at least t
---   points_fits t             64 bits hold the sum
+--   points_encoding p        the points in four bytes
+--   points_no_lighter p q    p has at least as many points as q
+--   points_nothing           the sum of none
+--   points_plus t p          the sum t with p added
+--   points_over s t          the sum s is at least t
+--   points_fits t            64 bits hold the sum
 use Rattle.std.specs.Prelude.{ℕ, ◌+◌, ◌^◌, ◌<◌, Bool, List, nat_le}
 use Rattle.kinds.specs.Bytes.{high_first}
 use Rattle.kinds.specs.declared.points.Points.{Points}

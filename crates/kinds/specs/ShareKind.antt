@@ -1,6 +1,6 @@
 -- Shares as a kind of weight: compared as fractions. Assumes nothing.
 --   share_encoding s        the part in two bytes, then the whole in two
---   share_no_lighter s t     s is at least t: s's part times t's whole is at least t's part times s's whole
+--   share_no_lighter s t    s is at least t: s's part times t's whole is at least t's part times s's whole
 use Rattle.std.specs.Prelude.{ℕ, ◌*◌, Bool, List, ◌++◌, nat_le}
 use Rattle.kinds.specs.Bytes.{high_first}
 use Rattle.kinds.specs.declared.share.Share.{Share}

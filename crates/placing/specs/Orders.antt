@@ -1,12 +1,12 @@
 -- What a kind of weight, a rank order and a service order must obey, and the orders in force. Assumes nothing.
---   Weighs no_lighter                  of two weights one is at least as heavy as the other, and so on from one to the next
---   Totals no_lighter plus over        totals grow with each weight, and no less with a heavier one
---   RankOrder no_lighter before        a strict order of jobs with different numbers, in which nobody ranks before a heavier job
---   RanksFirst no_lighter a b          job a is heavier than job b, or neither is heavier and its number is lower
---   heavier_then_lower no_lighter a b    the rank order in force, as a test
---   ServiceOrder first                a strict order of jobs with different numbers, in which nobody goes before an earlier deadline
---   ServedFirst d n e m               the deadline d is before e, or they are one and the number n is before m
---   goes_first, earliest_then_lower      the service order in force, as a test on numbers and on rows
+--   Weighs no_lighter                                 of two weights one is at least as heavy as the other, and so on from one to the next
+--   Totals no_lighter plus over                       totals grow with each weight, and no less with a heavier one
+--   RankOrder no_lighter before                       a strict order of jobs with different numbers, in which nobody ranks before a heavier job
+--   RanksFirst no_lighter a b                         job a is heavier than job b, or neither is heavier and its number is lower
+--   heavier_then_lower no_lighter a b                 the rank order in force, as a test
+--   ServiceOrder first                                a strict order of jobs with different numbers, in which nobody goes before an earlier deadline
+--   ServedFirst d n e m                               the deadline d is before e, or they are one and the number n is before m
+--   goes_first, earliest_then_lower                   the service order in force, as a test on numbers and on rows
 --   HeavierThenLowerMeans, EarliestThenLowerMeans     the tests say just that
 --   HeavierThenLowerRanks, EarliestThenLowerServes    and they are such orders
 use Rattle.std.specs.Prelude.{◌≡◌, ℕ, ◌<◌, ◌≤◌, Bool, true, false, ◌&&◌, ◌||◌, ◌⊎◌, Decides, ◌==◌, ◌≢◌, nat_lt}

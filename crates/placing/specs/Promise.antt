@@ -1,19 +1,19 @@
 -- What is promised of a plan, and of each change. Weights lie beside the rows, in a store: that of row i at i. Assumes nothing.
 --   no_lighter v w                    the weight v is at least as heavy as w
---   before a b                       job a ranks before job b
---   first r s                        of two ready jobs, that of row r is seated first
+--   before a b                        job a ranks before job b
+--   first r s                         of two ready jobs, that of row r is seated first
 --   jobs_of rows weights              the rows with their weights, as jobs
---   SameJobs xs ys                   the same jobs, in whatever order
---   InRankOrder before xs            each job ranks before the next
---   PlanOf ..                        rows and store are the plan of the table: its jobs in rank order, drawn
---   kept_above no_lighter level ..     how many rows are kept with a weight at or above the level
+--   SameJobs xs ys                    the same jobs, in whatever order
+--   InRankOrder before xs             each job ranks before the next
+--   PlanOf ..                         rows and store are the plan of the table: its jobs in rank order, drawn
+--   kept_above no_lighter level ..    how many rows are kept with a weight at or above the level
 --   Best no_lighter mask ..           no rival keeps more at any level
 --   Reasons no_lighter mask ..        each dropped row has a stretch, full of kept rows no lighter with their windows inside
---   Sound ..                         the plan of the table, best and with its reasons
---   total_of_kept nothing plus ..        the total of the kept rows' weights
---   Heaviest .. over mask ..         no rival's total is heavier: `over x y` says that x is at least as heavy as y
---   Changed before after number      the number's standing differs
---   OneOther before after named a    a = (kept, other): `kept` is whether the named job is kept after, and but for it `other` alone changed, if any
+--   Sound ..                          the plan of the table, best and with its reasons
+--   total_of_kept nothing plus ..     the total of the kept rows' weights
+--   Heaviest .. over mask ..          no rival's total is heavier: `over x y` says that x is at least as heavy as y
+--   Changed before after number       the number's standing differs
+--   OneOther before after named a     a = (kept, other): `kept` is whether the named job is kept after, and but for it `other` alone changed, if any
 use Rattle.std.specs.Prelude.{◌≡◌, ℕ, suc, ◌<◌, ◌≤◌, Bool, true, cond, ◌&&◌, List, [], ◌∷◌, length, take, is_some, Some, None, Option, ◌≢◌, slice_index_or}
 use Rattle.jobs.specs.declared.terms.Row.{Row}
 use Rattle.jobs.specs.declared.terms.Seat.{Seat}

@@ -2,7 +2,7 @@
 --   SameKept                 who is kept is settled by the jobs in rank order and the masks alone, whatever the order of service
 --   DroppedHasFullStretch    a dropped row has a stretch, whose open places are all seats of rows kept before it with their windows inside
 --   FrontKeepsMost           no rival keeps more of the first m rows, for each m
---   kept_among T rows         how many rows of the set T are kept
+--   kept_among T rows        how many rows of the set T are kept
 --   Reasoned mask T rows     each dropped row of T has its window in a run of slots whose open places are all seats of rows of T with their windows inside
 --   ReasonedKeepsMost        a reasoned placing keeps as many rows of T as any rival, however it was found
 --   ReasonsMakeBest          a placing with its reasons is best, however it was found

@@ -1,8 +1,8 @@
 -- What a load makes of a plan and the store beside it. Assumes nothing.
---   mask_of carried_on masks     the masks of the calendar in force: those of the sheet, ending or carried on
---   Loaded ..                  a load that is not refused: the sheet is read, and the plan is that of its jobs under this calendar
---     sound                    best and with its reasons
---     rest                     behind the jobs' weights the store is as before
+--   mask_of carried_on masks    the masks of the calendar in force: those of the sheet, ending or carried on
+--   Loaded ..                   a load that is not refused: the sheet is read, and the plan is that of its jobs under this calendar
+--     sound                     best and with its reasons
+--     rest                      behind the jobs' weights the store is as before
 --   LoadRefused ..              a load that is refused: the store is too short, or else the sheet has this fault
 --   load_refusal_number         the refusal's number
 --   load_refusal_byte           the byte of the refused record's tag, where a record is refused

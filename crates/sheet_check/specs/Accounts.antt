@@ -1,8 +1,8 @@
 -- The text of an account. Assumes nothing.
---   job_line written job      a job's line, where weights are written so
---   head_lines ..             the four lines before the jobs
---   refusal_line fault        the line of a refusal
---   Account ..               the account of a sheet: its head, then all its jobs in rank order, a line each
+--   job_line written job    a job's line, where weights are written so
+--   head_lines ..           the four lines before the jobs
+--   refusal_line fault      the line of a refusal
+--   Account ..              the account of a sheet: its head, then all its jobs in rank order, a line each
 use Rattle.std.specs.Prelude.{◌≡◌, ℕ, Bool, List, ◌++◌, length, codes, decimal}
 use Rattle.std.specs.List.{flat_map}
 use Rattle.std.specs.List.Sorted.{IsPermutation}

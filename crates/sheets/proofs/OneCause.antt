@@ -75,25 +75,25 @@ module _ (wanted least most : ℕ) (rest : List ℕ) where
   cause_alone value Wrong other known f g (inr x) (inl y) = absurd (frame_right known g (value x.1.0) y x.1.1)
   cause_alone value Wrong other known f g (inr x) (inr y) = x.0 ∙ sym y.0
 
-module _ (number ready deadline : ℕ) (numberTaken : Bool) (count : ℕ) where
+module _ (number ready deadline : ℕ) (number_taken : Bool) (count : ℕ) where
   -- the table's causes, in the order in which they are checked
   abbrev table_verdict : Option TableFault
   table_verdict =
       cond (eqb number 0) (Some (NumberZero number))
       (cond (ltb ready deadline && leb deadline 1024)
-      (cond numberTaken (Some (NumberTaken number)) (cond (leb 256 count) (Some (TableFull number)) None))
+      (cond number_taken (Some (NumberTaken number)) (cond (leb 256 count) (Some (TableFull number)) None))
       (Some (NoWindow number)))
 
-  table_fault : (fault : TableFault) → RefusedFor number ready deadline numberTaken count fault → table_verdict ≡ Some fault
+  table_fault : (fault : TableFault) → RefusedFor number ready deadline number_taken count fault → table_verdict ≡ Some fault
   table_fault (NumberZero job) h = grind (arith, nat_tests)
   table_fault (NoWindow job) h = grind (arith, nat_tests)
   table_fault (NumberTaken job) h = grind (arith, nat_tests)
   table_fault (TableFull job) h = grind (arith, nat_tests)
 
-  table_alone : (f g : TableFault) → RefusedFor number ready deadline numberTaken count f → RefusedFor number ready deadline numberTaken count g → f ≡ g
+  table_alone : (f g : TableFault) → RefusedFor number ready deadline number_taken count f → RefusedFor number ready deadline number_taken count g → f ≡ g
   table_alone f g x y = let p = table_fault f x in let q = table_fault g y in cc
 
-  table_right : (f : TableFault) → RefusedFor number ready deadline numberTaken count f → Admissible number ready deadline numberTaken count → ⊥
+  table_right : (f : TableFault) → RefusedFor number ready deadline number_taken count f → Admissible number ready deadline number_taken count → ⊥
   table_right f x a = let p = table_fault f x in grind (arith, nat_tests)
 
 module _ {W : Type 0} (code width : ℕ) (encoding : W → List ℕ) (injective : (a b : W) → encoding a ≡ encoding b → a ≡ b) (before : List (Job W)) (rest : List ℕ) where

@@ -1,18 +1,18 @@
 -- The format of a job sheet, and when it is read or refused. Assumes nothing.
---   two n                          a number in two bytes, the high byte first
+--   two n                           a number in two bytes, the high byte first
 --   record_bytes tag value          a record: its tag, the length of its value in two bytes, its value
 --   kind_record code                the record of a kind's code
 --   job_value encoding job          number, ready slot and deadline in two bytes each, then the weight
 --   job_records encoding jobs       the records of some jobs, one after the other
 --   sheet_bytes code encoding ..    a sheet: kind, calendar, jobs
---   tag_of, length_of, Known         the header of the record at the front of some bytes
---   FrameFault                     the first cause against a record's frame
---   Framed                         a record whose frame is right
---   KindCause, CalendarCause       the first cause against the kind record, and against the calendar record
---   JobCause                       the first cause against a job's record
---   Accepted                       a sheet that is read, with its masks and the bytes of its job records
---   Refused                        a sheet that is refused, with its first fault: at its kind, its calendar or a job
---   JobAt                          the job whose value stands in the k-th of some records
+--   tag_of, length_of, Known        the header of the record at the front of some bytes
+--   FrameFault                      the first cause against a record's frame
+--   Framed                          a record whose frame is right
+--   KindCause, CalendarCause        the first cause against the kind record, and against the calendar record
+--   JobCause                        the first cause against a job's record
+--   Accepted                        a sheet that is read, with its masks and the bytes of its job records
+--   Refused                         a sheet that is refused, with its first fault: at its kind, its calendar or a job
+--   JobAt                           the job whose value stands in the k-th of some records
 use Rattle.std.specs.Prelude.{◌≡◌, ℕ, ◌+◌, ◌-◌, ◌*◌, ◌/◌, ◌%◌, ◌<◌, ◌≤◌, ◌⊎◌, List, [], ◌∷◌, ◌++◌, length, take, drop, ◌≢◌, slice_index}
 use Rattle.jobs.specs.declared.terms.Job.{Job}
 use Rattle.jobs.specs.Admission.{RefusedFor, taken, Admitted}

@@ -1,6 +1,6 @@
 -- The kinds that a sheet may name. Assumes nothing.
 --   kind_code    the code of a kind in a sheet
---   Offered     the code of one of the three kinds
+--   Offered      the code of one of the three kinds
 use Rattle.std.specs.Prelude.{ℕ, ◌≤◌}
 use Rattle.sheets.specs.declared.kind.Kind.{Kind}
 use Rattle.sheets.specs.declared.kind.Kind.TheVariants.{Points, Classed, Share}

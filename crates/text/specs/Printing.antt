@@ -2,11 +2,11 @@
 --   line_with number mark a b      a line: a number, a mark, two more numbers with a space between them, and the byte 10
 --   kept_line number slot link     the line of a kept job
 --   dropped_line number from to    the line of a dropped job: its stretch's first slot, and the slot after its last
---   LineBy rows i seat line       the line of row i, where this is its seat
---   LineOf rows i line            the line of row i
---   Lines rows n text             the lines of the first n rows, one after the other
---   Printed rows text             the lines of all the rows, in rank order
---   PrintedOnce                   rows have one printed text
+--   LineBy rows i seat line        the line of row i, where this is its seat
+--   LineOf rows i line             the line of row i
+--   Lines rows n text              the lines of the first n rows, one after the other
+--   Printed rows text              the lines of all the rows, in rank order
+--   PrintedOnce                    rows have one printed text
 --   refusal_line number byte       the line of a refusal
 use Rattle.std.specs.Prelude.{◌≡◌, ℕ, ◌<◌, List, [], ◌++◌, length, Some, None, codes, decimal, Option, slice_index_or}
 use Rattle.std.specs.List.{flat_map}

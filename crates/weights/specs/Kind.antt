@@ -1,5 +1,5 @@
 -- What the two traits say of a kind of weight. Assumes nothing.
---   Octets bs                     each number of bs is a byte
+--   Octets bs                      each number of bs is a byte
 --   Agrees no_lighter plus over    adding the heavier of two weights never gives the lighter total
 use Rattle.std.specs.Prelude.{◌≡◌, ℕ, ◌<◌, Bool, true, List, [], ◌∷◌}
 

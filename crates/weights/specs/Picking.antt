@@ -1,6 +1,6 @@
 -- The ones that are picked of a row. Assumes nothing.
---   picked_of picks xs         those of xs beside which `picks` says true, in their order
---   Counted n picks xs        n is at most 256, and there are n of both
+--   picked_of picks xs    those of xs beside which `picks` says true, in their order
+--   Counted n picks xs    n is at most 256, and there are n of both
 use Rattle.std.specs.Prelude.{ℕ, ◌≤◌, Bool, cond, List, [], ◌∷◌, length}
 
 abbrev pub picked_of : {X : Type 0} → List Bool → List X → List X

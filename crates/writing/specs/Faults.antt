@@ -1,7 +1,7 @@
 -- Why a sheet is not written. Assumes nothing.
---   before a b                     job a ranks before job b
---   write_fault_number f             the refusal's number
---   WriteRefused before .. f       f is the first cause against writing: the store's, and only then that the buffer is shorter than the sheet
+--   before a b                  job a ranks before job b
+--   write_fault_number f        the refusal's number
+--   WriteRefused before .. f    f is the first cause against writing: the store's, and only then that the buffer is shorter than the sheet
 use Rattle.std.specs.Prelude.{ℕ, ◌<◌, Bool, List}
 use Rattle.jobs.specs.declared.terms.Row.{Row}
 use Rattle.jobs.specs.declared.terms.Job.{Job}

@@ -1,10 +1,10 @@
 -- A written sheet and its reading. Assumes nothing.
---   no_lighter v w         the weight v is at least as heavy as w
---   ReadsBack ..          the sheet is read, with these masks and these jobs, and in no other way
---   accepted              it is read with the masks and the records of the jobs
---   same                  these are the jobs of that reading
---   alone                 it has one reading
---   WrittenBack ..        a sheet with its jobs in rank order that is read, planned and written under its listed calendar is written as it was
+--   no_lighter v w    the weight v is at least as heavy as w
+--   ReadsBack ..      the sheet is read, with these masks and these jobs, and in no other way
+--   accepted          it is read with the masks and the records of the jobs
+--   same              these are the jobs of that reading
+--   alone             it has one reading
+--   WrittenBack ..    a sheet with its jobs in rank order that is read, planned and written under its listed calendar is written as it was
 use Rattle.std.specs.Prelude.{◌≡◌, ℕ, Bool, List, length}
 use Rattle.weights.specs.Kind.{Octets}
 use Rattle.calendars.specs.Masks.{listed_end, listed_mask}

@@ -1,8 +1,8 @@
 -- The sheet of a plan's table and a calendar. Assumes nothing.
---   no_lighter v w         the weight v is at least as heavy as w
---   masks_of end mask      the masks of the slots 0 .. end - 1
---   written_sheet ..       the sheet: the kind's code, the calendar's masks to its end, the jobs in rank order with the store's weights
---   Written .. n          the store serves the rows, and the sheet's n bytes stand at the front of the buffer, whose rest is as before
+--   no_lighter v w       the weight v is at least as heavy as w
+--   masks_of end mask    the masks of the slots 0 .. end - 1
+--   written_sheet ..     the sheet: the kind's code, the calendar's masks to its end, the jobs in rank order with the store's weights
+--   Written .. n         the store serves the rows, and the sheet's n bytes stand at the front of the buffer, whose rest is as before
 use Rattle.std.specs.Prelude.{◌≡◌, ℕ, Bool, List, ◌++◌, map, length, drop}
 use Rattle.std.specs.List.{range_with_len}
 use Rattle.jobs.specs.declared.terms.Row.{Row}
