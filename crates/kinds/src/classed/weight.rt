@@ -24,17 +24,17 @@ impl OrderedWeight for Classed {
 
     ghost encoding = { classed_encoding };
 
-    ghost coded = { first_of (Prim.search rules, Prim.grind (arith, Self.row.coded.inj)) };
+    ghost coded = { Prim.search rules };
 
-    ghost narrow = { first_of (Prim.search rules, Prim.grind (arith, Self.row.coded.inj)) };
+    ghost narrow = { Prim.search rules };
 
-    ghost total = { first_of (Prim.search rules, Prim.grind (arith, Self.row.coded.inj)) };
+    ghost total = { Prim.search rules };
 
-    ghost transitive = { first_of (Prim.search rules, Prim.grind (arith, Self.row.coded.inj)) };
+    ghost transitive = { Prim.search rules };
 
-    ghost sized = { first_of (Prim.search rules, Prim.grind (arith, Self.row.coded.inj)) };
+    ghost sized = { Prim.search rules };
 
-    ghost octets = { first_of (Prim.search rules, Prim.grind (arith, Self.row.coded.inj)) };
+    ghost octets = { Prim.search rules };
 
     ghost injective = { λ v w e.
         let parts = classed_parts (class_level v.class) v.points (class_level w.class) w.points (omega arith) (omega arith) e in

@@ -21,17 +21,17 @@ impl OrderedWeight for Points {
 
     ghost encoding = { points_encoding };
 
-    ghost coded = { first_of (Prim.search rules, Prim.grind (arith, Self.row.coded.inj)) };
+    ghost coded = { Prim.search rules };
 
-    ghost narrow = { first_of (Prim.search rules, Prim.grind (arith, Self.row.coded.inj)) };
+    ghost narrow = { Prim.search rules };
 
-    ghost total = { first_of (Prim.search rules, Prim.grind (arith, Self.row.coded.inj)) };
+    ghost total = { Prim.search rules };
 
-    ghost transitive = { first_of (Prim.search rules, Prim.grind (arith, Self.row.coded.inj)) };
+    ghost transitive = { Prim.search rules };
 
-    ghost sized = { first_of (Prim.search rules, Prim.grind (arith, Self.row.coded.inj)) };
+    ghost sized = { Prim.search rules };
 
-    ghost octets = { first_of (Prim.search rules, Prim.grind (arith, Self.row.coded.inj)) };
+    ghost octets = { Prim.search rules };
 
     ghost injective = { λ p q e. points_same p q (high_first_injective 4 p.count q.count (omega arith) (omega arith) e) };
 
@@ -74,17 +74,17 @@ impl TotalledWeight for Points {
 
     ghost fits = { points_fits };
 
-    ghost ordered = { first_of (Prim.search rules, Prim.grind (arith, Self.row.coded.inj)) };
+    ghost ordered = { Prim.search rules };
 
-    ghost chained = { first_of (Prim.search rules, Prim.grind (arith, Self.row.coded.inj)) };
+    ghost chained = { Prim.search rules };
 
-    ghost antisymmetric = { first_of (Prim.search rules, Prim.grind (arith, Self.row.coded.inj)) };
+    ghost antisymmetric = { Prim.search rules };
 
-    ghost commutes = { first_of (Prim.search rules, Prim.grind (arith, Self.row.coded.inj)) };
+    ghost commutes = { Prim.search rules };
 
-    ghost keeps = { first_of (Prim.search rules, Prim.grind (arith, Self.row.coded.inj)) };
+    ghost keeps = { Prim.search rules };
 
-    ghost grows = { first_of (Prim.search rules, Prim.grind (arith, Self.row.coded.inj)) };
+    ghost grows = { Prim.search rules };
 
     ghost room = { λ ws h. let b = sum_bound points_nothing ws in omega arith };
 

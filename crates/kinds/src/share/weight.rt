@@ -22,17 +22,17 @@ impl OrderedWeight for Share {
 
     ghost encoding = { share_encoding };
 
-    ghost coded = { first_of (Prim.search rules, Prim.grind (arith, Self.row.coded.inj)) };
+    ghost coded = { Prim.search rules };
 
-    ghost narrow = { first_of (Prim.search rules, Prim.grind (arith, Self.row.coded.inj)) };
+    ghost narrow = { Prim.search rules };
 
-    ghost total = { first_of (Prim.search rules, Prim.grind (arith, Self.row.coded.inj)) };
+    ghost total = { Prim.search rules };
 
     ghost transitive = { λ a b c p q. le-leb _ _ (cross a.part a.whole b.part b.whole c.part c.whole b.ok.2 (leb-true _ _ p) (leb-true _ _ q)) };
 
-    ghost sized = { first_of (Prim.search rules, Prim.grind (arith, Self.row.coded.inj)) };
+    ghost sized = { Prim.search rules };
 
-    ghost octets = { first_of (Prim.search rules, Prim.grind (arith, Self.row.coded.inj)) };
+    ghost octets = { Prim.search rules };
 
     ghost injective = { λ s t e.
         let parts = share_parts s.part s.whole t.part t.whole (omega arith) (omega arith) (omega arith) (omega arith) e in
