@@ -1,4 +1,4 @@
--- Numbers stay distinct, and windows end in time, where a row is seated, inserted or removed. Assumes nothing.
+-- Numbers stay distinct where a row is seated, inserted or removed, and each row keeps its window and its number. Assumes nothing.
 use Rattle.std.proofs.Common.{◌≡◌, ℕ, ◌+◌, ◌-◌, ◌<◌, ◌≤◌, List, length, take, set, Option, sym, ap, ◌∙◌, subst, inl, inr, ⊎_elim, arith}
 use lib.Seq.{take-set-lt}
 use Rattle.std.specs.List.{insert, remove}
@@ -8,10 +8,10 @@ use Rattle.std.proofs.lemmas.Bool.{cases_eq, cases_lt, cases_order}
 use Rattle.jobs.specs.declared.terms.Row.{Row}
 use Rattle.jobs.specs.declared.terms.Seat.{Seat}
 use Rattle.jobs.specs.declared.terms.Standing.TheVariants.{Absent}
-use Rattle.placing.specs.Placing.{Apart, blank, row}
+use Rattle.placing.specs.Placing.{Apart, SameTable, blank, row}
 use Rattle.placing.specs.Plan.{Stands}
 use Rattle.jobs.specs.Admission.{Window}
-use Rattle.plan.specs.Rows.{Distinct, with_seat}
+use Rattle.plan.specs.Rows.{Distinct, Numbered, Windows, with_seat}
 
 pub distinct_apart : (rows : List Row) → Distinct rows → Apart rows
 distinct_apart rows distinct i j l m e =
@@ -63,15 +63,6 @@ seated_rows rows n i s l m =
 
 -- what holds of each row, and of the one put in, still holds of each
 module _ (P : Row → Type 0) where
-  pub all_seated : ((r : Row) (s : Option Seat) → P r → P (with_seat r s)) → (rows : List Row) (p : ℕ) (s : Option Seat) → p < length rows →
-      ((i : ℕ) → i < length rows → P (row rows i)) → (i : ℕ) → i < length (set rows p (with_seat (row rows p) s)) → P (row (set rows p (with_seat (row rows p) s)) i)
-  all_seated keeps rows p s l all i h =
-      let h' : i < length rows = rw length-set at h in
-      elim (cases_eq i p) [
-        | inl e ↦ subst (λ (q : ℕ). P (row (set rows p (with_seat (row rows p) s)) q)) (sym e) (subst P (sym (get_or-set_same rows p (with_seat (row rows p) s) blank l)) (keeps (row rows p) s (all p l)))
-        | inr n ↦ subst P (sym (get_or-set_other rows p i (with_seat (row rows p) s) blank n)) (all i h')
-      ]
-
   pub all_removed : (rows : List Row) (p : ℕ) → p < length rows → ((i : ℕ) → i < length rows → P (row rows i)) → (i : ℕ) → i < length (remove rows p) → P (row (remove rows p) i)
   all_removed rows p l all i h =
       let n = length-remove rows p l in
@@ -98,6 +89,34 @@ HasWindow r = Window r.ready r.deadline
 
 abbrev pub HasNumber : Row → Type 0
 HasNumber r = 0 < r.number
+
+-- each row still has its window, and none the number 0, where a row that has them is inserted, one is removed, or the seats are others
+module _ (rows after : List Row) (p : ℕ) where
+  module _ (r : Row) (is : after ≡ insert rows p r) (l : p ≤ length rows) where
+    pub windows_inserted : HasWindow r → Windows rows → Windows after
+    windows_inserted here all = subst Windows (sym is) (all_inserted HasWindow rows p r l here all)
+
+    pub numbered_inserted : HasNumber r → Numbered rows → Numbered after
+    numbered_inserted here all = subst Numbered (sym is) (all_inserted HasNumber rows p r l here all)
+
+  module _ (is : after ≡ remove rows p) (l : p < length rows) where
+    pub windows_removed : Windows rows → Windows after
+    windows_removed all = subst Windows (sym is) (all_removed HasWindow rows p l all)
+
+    pub numbered_removed : Numbered rows → Numbered after
+    numbered_removed all = subst Numbered (sym is) (all_removed HasNumber rows p l all)
+
+module _ (rows after : List Row) (s : SameTable rows after) where
+  pub windows_like : Windows rows → Windows after
+  windows_like all i l =
+      let h : i < length rows = (let z = s.size in omega arith) in
+      let e = s.jobs i h in
+      subst (λ (n : ℕ). Window n (row after i).deadline) e.1 (subst (λ (n : ℕ). Window (row rows i).ready n) e.2 (all i h))
+
+  pub numbered_like : Numbered rows → Numbered after
+  numbered_like all i l =
+      let h : i < length rows = (let z = s.size in omega arith) in
+      subst (λ (n : ℕ). 0 < n) (s.jobs i h).0 (all i h)
 
 -- how many rows are in use
 pub rows_count : (rows : List Row) (n : ℕ) → length rows ≡ 256 → n ≤ 256 → length (take n rows) ≡ n

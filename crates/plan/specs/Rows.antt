@@ -2,7 +2,7 @@
 --   Distinct rows      no two of the rows have one number
 --   Windows rows       each row has a window, and it ends by slot 1,024
 --   Numbered rows      no row has the number 0
---   Tabled rows        a table may hold the rows: at most 256, no number twice and none 0, each with its window
+--   Tabled rows        a plan's table may hold the rows: at most 256, no number twice and none 0, each with its window
 --   OthersStay ..      each number of the table before, but for the named one, is one of the table after
 --   with_seat row s    the same job with the seat s, or with none
 use Rattle.std.specs.Prelude.{◌≡◌, ℕ, ◌<◌, ◌≤◌, List, length, Option, ◌≢◌}

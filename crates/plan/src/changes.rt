@@ -1,4 +1,5 @@
-// The calls that change the table of a plan. Each checks first, then changes rows and store, and plans anew.
+// The calls that change the table of a plan. Each checks first, then changes the store and a copy of the table, plans the copy anew, and
+// puts it in the table's place.
 ghost use Rattle.std.specs.Prelude.{◌≡◌, true, OnErr};
 ghost use Rattle.jobs.specs.declared.terms.Standing.TheVariants.{Kept};
 ghost use Rattle.placing.specs.Plan.{Stands};
@@ -46,16 +47,18 @@ pub fn offer<W: OrderedWeight, C: Calendar>(
     if let Some(fault) = offer_fault(&plan.table, store, &job) {
         return Err(fault);
     }
-    let before = plan.table;
+    let mut table = plan.table;
     let row = Row {
         number: job.number,
         ready: job.ready,
         deadline: job.deadline,
         seat: None,
     };
-    insert_ranked(&mut plan.table, store, row, job.weight);
-    plan.table.replan(calendar);
-    Ok(answer(&before, &plan.table, job.number))
+    insert_ranked(&mut table, store, row, job.weight);
+    table.replan(calendar);
+    let answered = answer(&plan.table, &table, job.number);
+    plan.table = table;
+    Ok(answered)
 }
 
 // Takes the job with this number out of the table. Refused for a store that is too short (14) or out of rank order (6) and a number that
@@ -70,10 +73,12 @@ pub fn withdraw<W: OrderedWeight, C: Calendar>(
     ensures refused { OnErr result (plan.new ≡ plan.old) }
 {
     let rank = named_rank(&plan.table, store, number)?;
-    let before = plan.table;
-    remove_ranked(&mut plan.table, store, rank);
-    plan.table.replan(calendar);
-    Ok(answer(&before, &plan.table, number))
+    let mut table = plan.table;
+    remove_ranked(&mut table, store, rank);
+    table.replan(calendar);
+    let answered = answer(&plan.table, &table, number);
+    plan.table = table;
+    Ok(answered)
 }
 
 // Gives the job with this number another weight. Refused as a withdrawal is; plan and store are then as before.
@@ -88,10 +93,12 @@ pub fn reweigh<W: OrderedWeight, C: Calendar>(
     ensures refused { OnErr result (plan.new ≡ plan.old) }
 {
     let from = named_rank(&plan.table, store, number)?;
-    let before = plan.table;
-    let row = before.row(from);
-    remove_ranked(&mut plan.table, store, from);
-    insert_ranked(&mut plan.table, store, row, weight);
-    plan.table.replan(calendar);
-    Ok(answer(&before, &plan.table, number))
+    let mut table = plan.table;
+    let row = table.row(from);
+    remove_ranked(&mut table, store, from);
+    insert_ranked(&mut table, store, row, weight);
+    table.replan(calendar);
+    let answered = answer(&plan.table, &table, number);
+    plan.table = table;
+    Ok(answered)
 }

@@ -1,17 +1,22 @@
 // A plan: its table of jobs in rank order, each with its seat. The weights lie in a store of the caller's.
 ghost use Rattle.std.specs.Prelude.{◌≡◌, ◌≤◌, [], length};
-ghost use Rattle.plan.specs.Plans.{rows_in};
-ghost use Rattle.plan.specs.Rows.{Tabled};
+ghost use Rattle.plan.specs.Rows.{Numbered, Tabled, Windows};
+ghost use Rattle.plan.specs.Tables.{rows_of};
 
 use crate::table::Table;
 use jobs::terms::Row;
 
+// Each job of its table has a window that ends by slot 1,024, and none has the number 0.
 #[derive(Clone, Copy)]
 pub struct Plan {
     pub(crate) table: Table,
+    ghost windows: { Windows (rows_of table) },
+    ghost numbered: { Numbered (rows_of table) },
 }
 
 impl Plan {
+    ghost use Rattle.plan.specs.Plans.{rows_in};
+
     // A plan without jobs.
     pub fn open() -> Plan
         ensures made { rows_in result ≡ [] }

@@ -1,14 +1,13 @@
 // The jobs of a plan, in rank order, each with its seat.
 ghost use Rattle.std.specs.Prelude.{◌≡◌, ◌≤◌, length, take};
-ghost use Rattle.plan.specs.Rows.{Distinct, Numbered, Windows};
+ghost use Rattle.plan.specs.Rows.{Distinct};
 
 use jobs::terms::Row;
 
 mod drawn;
 mod rows;
 
-// Up to 256 rows, of which the first `count` are in use; no two of those have one number, none has the
-// number 0, and each has a window that ends by slot 1,024.
+// Up to 256 rows, of which the first `count` are in use; no two of those have one number.
 #[derive(Clone, Copy)]
 pub(crate) struct Table {
     rows: [Row; 256],
@@ -16,6 +15,4 @@ pub(crate) struct Table {
     ghost whole: { length rows ≡ 256 },
     ghost few: { count ≤ 256 },
     ghost distinct: { Distinct (take count rows) },
-    ghost windows: { Windows (take count rows) },
-    ghost numbered: { Numbered (take count rows) },
 }

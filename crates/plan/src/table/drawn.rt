@@ -4,6 +4,7 @@ ghost use Rattle.drawing.specs.Draw.{seated};
 ghost use Rattle.placing.specs.Orders.{earliest_then_lower};
 ghost use Rattle.placing.specs.Placing.{SameTable};
 ghost use Rattle.placing.specs.Plan.{Drawn};
+ghost use Rattle.plan.specs.Rows.{Windows};
 ghost use Rattle.plan.specs.Tables.{rows_of};
 
 use super::Table;
@@ -23,9 +24,10 @@ impl Table {
         }
     }
 
-    // Draws the rows anew, with a lent entry for each row's seat.
+    // Draws the rows anew, where each has its window, with a lent entry for each row's seat.
     fn draw_with<C: Calendar>(&mut self, calendar: &C, seats: &mut [Option<Seat>])
-        requires { length seats.old ≡ self.old.count }
+        requires lent { length seats.old ≡ self.old.count }
+        requires windows { Windows (rows_of self.old) }
         ensures same { SameTable (rows_of self.old) (rows_of self.new) }
         ensures drawn { Drawn earliest_then_lower (C.Calendar.mask calendar.now) (rows_of self.new) }
         ensures count { self.new.count ≡ self.old.count }
@@ -34,8 +36,9 @@ impl Table {
         self.seat_all(seats);
     }
 
-    // Plans the table anew: who is kept, and where they sit.
+    // Plans the table anew, where each row has its window: who is kept, and where they sit.
     pub(crate) fn replan<C: Calendar>(&mut self, calendar: &C)
+        requires windows { Windows (rows_of self.old) }
         ensures same { SameTable (rows_of self.old) (rows_of self.new) }
         ensures drawn { Drawn earliest_then_lower (C.Calendar.mask calendar.now) (rows_of self.new) }
         ensures count { self.new.count ≡ self.old.count }

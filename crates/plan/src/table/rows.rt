@@ -1,12 +1,10 @@
 // How a table is read and changed.
 ghost use Rattle.std.specs.Prelude.{◌≡◌, ◌+◌, ◌-◌, ◌<◌, ◌≤◌, [], length, MatchOption, slice_set};
 ghost use Rattle.std.specs.List.{insert, remove};
-ghost use Rattle.drawing.specs.Draw.{Drawable};
-ghost use Rattle.jobs.specs.Admission.{Window};
 ghost use Rattle.jobs.specs.declared.terms.Standing.TheVariants.{Absent};
 ghost use Rattle.placing.specs.Placing.{Apart, row as row_at};
 ghost use Rattle.placing.specs.Plan.{Stands};
-ghost use Rattle.plan.specs.Rows.{Tabled, with_seat};
+ghost use Rattle.plan.specs.Rows.{Distinct, with_seat};
 ghost use Rattle.plan.specs.Tables.{rows_of};
 
 use super::Table;
@@ -42,11 +40,11 @@ impl Table {
         self.count
     }
 
-    // The rows, in rank order. They can be drawn, and a table may hold them.
+    // The rows, in rank order: at most 256, and no two with one number.
     pub(crate) fn rows(&self) -> &[Row]
         ensures value { result.now ≡ rows_of self.now }
-        ensures drawable { Drawable (rows_of self.now) }
-        ensures admissible { Tabled (rows_of self.now) }
+        ensures few { length result.now ≤ 256 }
+        ensures distinct { Distinct (rows_of self.now) }
     {
         &self.rows[0..self.count]
     }
@@ -85,8 +83,6 @@ impl Table {
         requires room { self.old.count < 256 }
         requires within { rank ≤ self.old.count }
         requires absent { Stands (rows_of self.old) row.number Absent }
-        requires window { Window row.ready row.deadline }
-        requires numbered { 0 < row.number }
         ensures leaves { rows_of self.new ≡ insert (rows_of self.old) rank row }
         ensures count { self.new.count ≡ self.old.count + 1 }
     {

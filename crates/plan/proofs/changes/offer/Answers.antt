@@ -5,7 +5,7 @@ use Rattle.plan.specs.Tables.{rows_of}
 use Rattle.plan.proofs.Causes.{offer_window, offer_number, offer_absent, offer_room}
 use Rattle.plan.proofs.OneMore.{offer_more, more_stay}
 use Rattle.plan.proofs.Outcomes.{offered}
-use Rattle.plan.proofs.Rows.{distinct_apart, rows_count}
+use Rattle.plan.proofs.Rows.{distinct_apart, windows_inserted, numbered_inserted, windows_like, numbered_like, rows_count}
 use Rattle.plan.proofs.changes.offer.Goals as goal
 
 pub insert_ranked-requires : goal.insert_ranked-requires
@@ -23,12 +23,40 @@ insert_ranked-requires g c =
       space = omega arith;
       order = good.1;
       absent = offer_absent before rows store c.args.job allowed;
-      window = offer_window before rows store c.args.job allowed;
-      numbered = offer_number before rows store c.args.job allowed;
     }
 
-pub answer-requires : goal.answer-requires
-answer-requires g c =
+pub replan-requires : goal.replan-requires
+replan-requires g c =
+    let table = c.args.plan.now.table in
+    let rows = rows_of table in
+    let before = heavier_then_lower g.W.OrderedWeight.no_lighter in
+    let long = rows_count table.rows table.count table.whole table.few in
+    let p = c.insert_ranked.result in
+    let within : p ≤ length rows = (let w = c.insert_ranked.ensures.within in omega arith) in
+    record {
+      windows = windows_inserted rows (rows_of c.insert_ranked.new.table) p _ c.insert_ranked.ensures.rows within (offer_window before rows c.args.store.now c.args.job c.in_default.ensures.cases.1) c.args.plan.now.windows;
+    }
+
+pub invariant_of-plan : goal.invariant_of-plan
+invariant_of-plan g c =
+    let table = c.args.plan.now.table in
+    let rows = rows_of table in
+    let mid = rows_of c.insert_ranked.new.table in
+    let last = rows_of c.replan.new.self in
+    let before = heavier_then_lower g.W.OrderedWeight.no_lighter in
+    let allowed = c.in_default.ensures.cases.1 in
+    let long = rows_count table.rows table.count table.whole table.few in
+    let p = c.insert_ranked.result in
+    let within : p ≤ length rows = (let w = c.insert_ranked.ensures.within in omega arith) in
+    let is = c.insert_ranked.ensures.rows in
+    let same = c.replan.ensures.same in
+    record {
+      windows = windows_like mid last same (windows_inserted rows mid p _ is within (offer_window before rows c.args.store.now c.args.job allowed) c.args.plan.now.windows);
+      numbered = numbered_like mid last same (numbered_inserted rows mid p _ is within (offer_number before rows c.args.store.now c.args.job allowed) c.args.plan.now.numbered);
+    }
+
+pub answer-answered-requires : goal.answer-answered-requires
+answer-answered-requires g c =
     let rows = rows_in c.args.plan.now in
     let p = c.insert_ranked.result in
     let long = rows_count c.args.plan.now.table.rows c.args.plan.now.table.count c.args.plan.now.table.whole c.args.plan.now.table.few in
@@ -54,7 +82,7 @@ returns g c =
     let long'' : length mid ≡ table.count + 1 = rows_count more.rows more.count more.whole more.few ∙ c.insert_ranked.ensures.count in
     record {
       outcome = offered no_lighter (g.C.Calendar.mask c.args.calendar.now) (record { total = g.met.W.OrderedWeight.total; trans = g.met.W.OrderedWeight.transitive })
-          rows mid (rows_of last) store c.insert_ranked.new.store c.answer.result p _ c.args.job refl allowed
+          rows mid (rows_of last) store c.insert_ranked.new.store c.answer-answered.result p _ c.args.job refl allowed
           (record {
             few = (let f = last.few in omega arith);
             apart = distinct_apart (rows_of last) last.distinct;
@@ -62,8 +90,8 @@ returns g c =
             same = c.replan.ensures.same;
             drawn = c.replan.ensures.drawn;
             rest = subst (λ (n : ℕ). drop n c.insert_ranked.new.store ≡ drop n store) (sym long'') c.insert_ranked.ensures.leaves;
-            flag = c.answer.ensures.kept;
-            first = c.answer.ensures.other;
+            flag = c.answer-answered.ensures.kept;
+            first = c.answer-answered.ensures.other;
           })
           good.1.stored within c.insert_ranked.ensures.rows c.insert_ranked.ensures.made;
       refused = tt;

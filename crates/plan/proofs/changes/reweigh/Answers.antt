@@ -10,11 +10,48 @@ use Rattle.plan.specs.Tables.{rows_of}
 use Rattle.plan.proofs.Causes.{name_allowed}
 use Rattle.plan.proofs.OneMore.{offer_more, withdraw_more, same_itself, more_stay, less_stay, stay_on}
 use Rattle.plan.proofs.Outcomes.{reweighed_at}
-use Rattle.plan.proofs.Rows.{distinct_apart, rows_count}
+use Rattle.plan.proofs.Rows.{HasWindow, HasNumber, distinct_apart, windows_inserted, numbered_inserted, windows_removed, numbered_removed, windows_like, numbered_like, rows_count}
 use Rattle.plan.proofs.changes.reweigh.Goals as goal
 
-pub answer-requires : goal.answer-requires
-answer-requires g c =
+pub replan-requires : goal.replan-requires
+replan-requires g c =
+    let table = c.args.plan.now.table in
+    let less = c.remove_ranked.new.table in
+    let rows = rows_of table in
+    let p = c.in_ok-from.from in
+    let within : p < length rows = (let l = rows_count table.rows table.count table.whole table.few in let h = c.in_ok-from.ensures.cases.1 in omega arith) in
+    let most : c.insert_ranked.result ≤ length (rows_of less) = (let l = rows_count less.rows less.count less.whole less.few in let h = c.insert_ranked.ensures.within in omega arith) in
+    let windows = c.args.plan.now.windows in
+    record {
+      windows = windows_inserted (rows_of less) (rows_of c.insert_ranked.new.table) c.insert_ranked.result c.row-row.result c.insert_ranked.ensures.rows most
+          (subst HasWindow (sym c.row-row.ensures.value) (windows p within)) (windows_removed rows (rows_of less) p c.remove_ranked.ensures.rows within windows);
+    }
+
+pub invariant_of-plan : goal.invariant_of-plan
+invariant_of-plan g c =
+    let table = c.args.plan.now.table in
+    let less = c.remove_ranked.new.table in
+    let rows = rows_of table in
+    let rest = rows_of less in
+    let more = rows_of c.insert_ranked.new.table in
+    let last = rows_of c.replan.new.self in
+    let p = c.in_ok-from.from in
+    let q = c.insert_ranked.result in
+    let r = c.row-row.result in
+    let within : p < length rows = (let l = rows_count table.rows table.count table.whole table.few in let h = c.in_ok-from.ensures.cases.1 in omega arith) in
+    let most : q ≤ length rest = (let l = rows_count less.rows less.count less.whole less.few in let h = c.insert_ranked.ensures.within in omega arith) in
+    let is = sym c.row-row.ensures.value in
+    let cut = c.remove_ranked.ensures.rows in
+    let put = c.insert_ranked.ensures.rows in
+    let windows = c.args.plan.now.windows in
+    let numbered = c.args.plan.now.numbered in
+    record {
+      windows = windows_like more last c.replan.ensures.same (windows_inserted rest more q r put most (subst HasWindow is (windows p within)) (windows_removed rows rest p cut within windows));
+      numbered = numbered_like more last c.replan.ensures.same (numbered_inserted rest more q r put most (subst HasNumber is (numbered p within)) (numbered_removed rows rest p cut within numbered));
+    }
+
+pub answer-answered-requires : goal.answer-answered-requires
+answer-answered-requires g c =
     let table = c.args.plan.now.table in
     let less = c.remove_ranked.new.table in
     let rows = rows_of table in
@@ -57,7 +94,7 @@ returns g c =
     let rest : drop (k + 1) shelf ≡ drop (k + 1) store = put ∙ (sym (drop-drop 1 k rack) ∙ (ap (drop 1) c.remove_ranked.ensures.leaves ∙ drop-drop 1 k store)) in
     record {
       outcome = reweighed_at no_lighter (g.C.Calendar.mask c.args.calendar.now) (record { total = g.met.W.OrderedWeight.total; trans = g.met.W.OrderedWeight.transitive })
-          rows (rows_of more) (rows_of last) store shelf c.answer.result p n found.0.1.stored within (distinct_apart rows table.distinct) found.2
+          rows (rows_of more) (rows_of last) store shelf c.answer-answered.result p n found.0.1.stored within (distinct_apart rows table.distinct) found.2
           q w (rows_of less) rack
           (name_allowed (heavier_then_lower no_lighter) rows store (Reweigh n w) n (λ f x. x) (λ x. x) found.0 (λ absent. absent p within found.2))
           (record {
@@ -67,8 +104,8 @@ returns g c =
             same = c.replan.ensures.same;
             drawn = c.replan.ensures.drawn;
             rest = subst (λ (i : ℕ). drop i shelf ≡ drop i store) (sym size) rest;
-            flag = c.answer.ensures.kept;
-            first = c.answer.ensures.other;
+            flag = c.answer-answered.ensures.kept;
+            first = c.answer-answered.ensures.other;
           })
           most c.remove_ranked.ensures.rows c.remove_ranked.ensures.made
           (c.insert_ranked.ensures.rows ∙ ap (insert (rows_of less) q) is) (c.insert_ranked.ensures.made ∙ ap (λ r. insert (jobs_in (rows_of less) rack) q (job_of r w)) is);

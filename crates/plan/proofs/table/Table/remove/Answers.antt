@@ -3,8 +3,8 @@ use Rattle.std.proofs.lemmas.List.{places}
 use Rattle.jobs.specs.declared.terms.Standing.TheVariants.{Absent}
 use Rattle.placing.specs.Placing.{row}
 use Rattle.placing.specs.Plan.{Stands}
-use Rattle.plan.specs.Rows.{Distinct, Numbered, Windows}
-use Rattle.plan.proofs.Rows.{HasWindow, HasNumber, distinct_removed, all_removed, removed_absent}
+use Rattle.plan.specs.Rows.{Distinct}
+use Rattle.plan.proofs.Rows.{distinct_removed, removed_absent}
 use Rattle.plan.proofs.table.Table.remove.Goals as goal
 
 pub invariant_of-self : goal.invariant_of-self
@@ -14,10 +14,6 @@ invariant_of-self c = record {
   distinct =
       subst Distinct (sym c.close_at.ensures.value)
       (distinct_removed (take c.args.self.now.count c.args.self.now.rows) c.args.rank (search (rules, places)) c.args.self.now.distinct);
-  windows =
-      subst Windows (sym c.close_at.ensures.value) (all_removed HasWindow (take c.args.self.now.count c.args.self.now.rows) c.args.rank (search (rules, places)) c.args.self.now.windows);
-  numbered =
-      subst Numbered (sym c.close_at.ensures.value) (all_removed HasNumber (take c.args.self.now.count c.args.self.now.rows) c.args.rank (search (rules, places)) c.args.self.now.numbered);
 }
 
 pub returns : goal.returns
