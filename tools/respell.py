@@ -78,6 +78,9 @@ def names():
 
 def main():
     turned = names()
+    if not turned:
+        print("nothing to turn")
+        return
     any_of = "|".join(re.escape(n) for n in sorted(turned, key=len, reverse=True))
     token = re.compile(rf"(?<!{LETTER})({any_of})(?!{LETTER})")
 
