@@ -1,8 +1,8 @@
 -- Each calendar keeps its laws: the lemmas that the calendars themselves cite, apart from the definitions. Assumes nothing.
 --   none_after        a mask that is given only below the end is 0 from the end on
---   KIND-end-bound    the end of a calendar of that kind is at most 1,024
---   KIND-bound        its masks are below 256
---   KIND-after        its masks are 0 from the end on
+--   KIND_end_bound    the end of a calendar of that kind is at most 1,024
+--   KIND_bound        its masks are below 256
+--   KIND_after        its masks are 0 from the end on
 use Rattle.std.specs.Prelude.{◌≡◌, ℕ, ◌-◌, ◌%◌, ◌^◌, ◌<◌, ◌≤◌, cond, List, ◌==◌, bit_and, nat_lt, slice_index, refl}
 use Rattle.std.proofs.Common.{lit<, pow_mono, mod-lt, arith}
 use Rattle.std.proofs.lemmas.Nat.{and_le_l}

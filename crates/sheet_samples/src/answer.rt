@@ -4,7 +4,6 @@ use jobs::terms::Job;
 use sheets::reader::read;
 use std::alloc::Global;
 use std::fmt::{Debug, Display};
-use std::process::Abort;
 use std::test::Fail;
 use weights::kind::OrderedWeight;
 
@@ -37,56 +36,59 @@ fn answer_of<W: OrderedWeight>(sheet: &[u8]) -> Answer {
     }
 }
 
+// What was found is what is due; else what the sheet is, and both, stand in the failure.
+fn check_same<T: PartialEq + Debug + Copy>(
+    what: impl Display + Copy,
+    found: T,
+    due: T,
+) -> Result<(), Fail> {
+    if found == due {
+        return Ok(());
+    }
+    Err(Fail::new(format_args!("{what}: {found:?} in place of {due:?}")))
+}
+
 // The reader's answer for the kind W is this one; what the sheet is stands in the message of a test that fails.
 pub(crate) fn check_answer<W: OrderedWeight>(
-    rt: &impl Abort,
     what: impl Display + Copy,
     sheet: &[u8],
     answer: Answer,
 ) -> Result<(), Fail> {
-    assert_eq!(rt; answer_of::<W>(sheet), answer, "{what}");
-    Ok(())
+    check_same(what, answer_of::<W>(sheet), answer)
 }
 
 // The same for each of the sheets.
-pub(crate) fn check_cases<W: OrderedWeight>(
-    rt: &impl Abort,
-    heap: Global,
-    cases: &[Case],
-) -> Result<(), Fail> {
+pub(crate) fn check_cases<W: OrderedWeight>(heap: Global, cases: &[Case]) -> Result<(), Fail> {
     for case in cases {
         let sheet = joined(heap, case.records)?;
-        check_answer::<W>(rt, case.what, &sheet, case.answer)?;
+        check_answer::<W>(case.what, &sheet, case.answer)?;
     }
     Ok(())
 }
 
 // The sheet is read: with these masks and these jobs, and with no job behind them.
 pub(crate) fn check_read<W: OrderedWeight + PartialEq + Debug>(
-    rt: &impl Abort,
     what: impl Display + Copy,
     sheet: &[u8],
     masks: &[u8],
     jobs: &[Job<W>],
 ) -> Result<(), Fail> {
     let read = read::<W>(sheet)?;
-    assert_eq!(rt; read.masks(), masks, "{what}");
-    assert_eq!(rt; read.job_count(), jobs.len(), "{what}");
+    check_same(what, read.masks(), masks)?;
+    check_same(what, read.job_count(), jobs.len())?;
     for (k, job) in jobs.iter().enumerate() {
-        assert_eq!(rt; read.job(k), Some(*job), "{what}");
+        check_same(what, read.job(k), Some(*job))?;
     }
-    assert_eq!(rt; read.job(jobs.len()), None, "{what}");
-    Ok(())
+    check_same(what, read.job(jobs.len()), None)
 }
 
 // The same for a sheet by its records.
 pub(crate) fn check_records<W: OrderedWeight + PartialEq + Debug>(
-    rt: &impl Abort,
     heap: Global,
     records: &[&[u8]],
     masks: &[u8],
     jobs: &[Job<W>],
 ) -> Result<(), Fail> {
     let sheet = joined(heap, records)?;
-    check_read::<W>(rt, "records", &sheet, masks, jobs)
+    check_read::<W>("records", &sheet, masks, jobs)
 }

@@ -235,12 +235,12 @@ const VALUES: [Case; 9] = [
 
 #[test]
 fn wrong_tags_and_order(rt: HostRuntime) -> Result<(), Fail> {
-    check_cases::<Points>(&rt, rt.alloc(), &TAGS)?;
-    check_cases::<Points>(&rt, rt.alloc(), &ORDER)
+    check_cases::<Points>(rt.alloc(), &TAGS)?;
+    check_cases::<Points>(rt.alloc(), &ORDER)
 }
 
 #[test]
 fn wrong_lengths_and_values(rt: HostRuntime) -> Result<(), Fail> {
-    check_cases::<Points>(&rt, rt.alloc(), &LENGTHS)?;
-    check_cases::<Points>(&rt, rt.alloc(), &VALUES)
+    check_cases::<Points>(rt.alloc(), &LENGTHS)?;
+    check_cases::<Points>(rt.alloc(), &VALUES)
 }

@@ -196,7 +196,7 @@ const WINDOWS: [Case; 12] = [
 
 #[test]
 fn wrong_jobs(rt: HostRuntime) -> Result<(), Fail> {
-    check_cases::<Points>(&rt, rt.alloc(), &WEIGHTS)?;
-    check_cases::<Points>(&rt, rt.alloc(), &NUMBERS)?;
-    check_cases::<Points>(&rt, rt.alloc(), &WINDOWS)
+    check_cases::<Points>(rt.alloc(), &WEIGHTS)?;
+    check_cases::<Points>(rt.alloc(), &NUMBERS)?;
+    check_cases::<Points>(rt.alloc(), &WINDOWS)
 }

@@ -79,7 +79,7 @@ fn jobs_behind_256(rt: HostRuntime) -> Result<(), Fail> {
     for case in &BEHIND {
         let mut sheet = full_sheet(heap)?;
         sheet.extend_from_slice(&joined(heap, case.records)?)?;
-        check_answer::<Points>(&rt, case.what, &sheet, case.answer)?;
+        check_answer::<Points>(case.what, &sheet, case.answer)?;
     }
     Ok(())
 }
@@ -106,9 +106,9 @@ fn masks_up_to_1024(rt: HostRuntime) -> Result<(), Fail> {
     let heap = rt.alloc();
     let masks = [170; 1024];
     let mut sheet = joined(heap, &[KIND, &[2, 4, 0], &masks])?;
-    check_read::<Points>(&rt, "1,024 masks", &sheet, &masks, &[])?;
+    check_read::<Points>("1,024 masks", &sheet, &masks, &[])?;
     sheet.extend_from_slice(&[4, 0, 0])?;
-    check_answer::<Points>(&rt, "a byte behind them", &sheet, Answer::Sheet(2, 1031))?;
+    check_answer::<Points>("a byte behind them", &sheet, Answer::Sheet(2, 1031))?;
     let more = joined(heap, &[KIND, &[2, 4, 1], &masks, &[170]])?;
-    check_answer::<Points>(&rt, "1,025 masks", &more, Answer::Sheet(5, 4))
+    check_answer::<Points>("1,025 masks", &more, Answer::Sheet(5, 4))
 }

@@ -32,10 +32,10 @@ fn swapped_and_removed(rt: HostRuntime) -> Result<(), Fail> {
     let heap = rt.alloc();
     let [a, b, c, d, e] = sample_jobs()?;
     let neighbours = &[KIND, CALENDAR, SECOND, FIRST, THIRD, FOURTH, FIFTH];
-    check_records::<Points>(&rt, heap, neighbours, &MASKS, &[b, a, c, d, e])?;
+    check_records::<Points>(heap, neighbours, &MASKS, &[b, a, c, d, e])?;
     let ends = &[KIND, CALENDAR, FIFTH, SECOND, THIRD, FOURTH, FIRST];
-    check_records::<Points>(&rt, heap, ends, &MASKS, &[e, b, c, d, a])?;
+    check_records::<Points>(heap, ends, &MASKS, &[e, b, c, d, a])?;
     let without = &[KIND, CALENDAR, FIRST, SECOND, FOURTH, FIFTH];
-    check_records::<Points>(&rt, heap, without, &MASKS, &[a, b, d, e])?;
-    check_cases::<Points>(&rt, heap, &REMOVED)
+    check_records::<Points>(heap, without, &MASKS, &[a, b, d, e])?;
+    check_cases::<Points>(heap, &REMOVED)
 }

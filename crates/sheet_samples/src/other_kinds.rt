@@ -171,6 +171,6 @@ const SHARES: [Case; 8] = [
 
 #[test]
 fn wrong_classed_and_shares(rt: HostRuntime) -> Result<(), Fail> {
-    check_cases::<Classed>(&rt, rt.alloc(), &CLASSED)?;
-    check_cases::<Share>(&rt, rt.alloc(), &SHARES)
+    check_cases::<Classed>(rt.alloc(), &CLASSED)?;
+    check_cases::<Share>(rt.alloc(), &SHARES)
 }

@@ -30,10 +30,10 @@ const MOST: &[u8] = &[3, 0, 10, 0, 1, 0, 0, 0, 2, 255, 255, 255, 255];
 fn points_are_read(rt: HostRuntime) -> Result<(), Fail> {
     let heap = rt.alloc();
     let most = points_job(1, 0, 2, 4_294_967_295)?;
-    check_records::<Points>(&rt, heap, SAMPLE, &MASKS, &sample_jobs()?)?;
-    check_records::<Points>(&rt, heap, &[KIND, CALENDAR], &MASKS, &[])?;
-    check_records::<Points>(&rt, heap, &[KIND, NO_SLOTS], &[], &[])?;
-    check_records::<Points>(&rt, heap, &[KIND, NO_SLOTS, MOST], &[], &[most])
+    check_records::<Points>(heap, SAMPLE, &MASKS, &sample_jobs()?)?;
+    check_records::<Points>(heap, &[KIND, CALENDAR], &MASKS, &[])?;
+    check_records::<Points>(heap, &[KIND, NO_SLOTS], &[], &[])?;
+    check_records::<Points>(heap, &[KIND, NO_SLOTS, MOST], &[], &[most])
 }
 
 #[test]
@@ -53,8 +53,8 @@ fn classed_are_read(rt: HostRuntime) -> Result<(), Fail> {
             weight: Classed::new(0, 1)?,
         },
     ];
-    check_records::<Classed>(&rt, heap, CLASSED, &[255, 0, 129], &jobs)?;
-    check_records::<Classed>(&rt, heap, &[CLASSED_KIND, NO_SLOTS], &[], &[])
+    check_records::<Classed>(heap, CLASSED, &[255, 0, 129], &jobs)?;
+    check_records::<Classed>(heap, &[CLASSED_KIND, NO_SLOTS], &[], &[])
 }
 
 #[test]
@@ -74,6 +74,6 @@ fn shares_are_read(rt: HostRuntime) -> Result<(), Fail> {
             weight: Share::new(258, 65_535)?,
         },
     ];
-    check_records::<Share>(&rt, heap, SHARES, &[128], &jobs)?;
-    check_records::<Share>(&rt, heap, &[SHARE_KIND, NO_SLOTS], &[], &[])
+    check_records::<Share>(heap, SHARES, &[128], &jobs)?;
+    check_records::<Share>(heap, &[SHARE_KIND, NO_SLOTS], &[], &[])
 }
