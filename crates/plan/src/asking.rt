@@ -33,10 +33,8 @@ impl Plan {
     pub fn seat(&self, number: u16) -> Option<Seat>
         ensures value { SeatOf (rows_in self.now) number result }
     {
-        match self.table.find(number) {
-            Some(rank) => self.table.row(rank).seat,
-            None => None,
-        }
+        let rank = self.table.find(number)?;
+        self.table.row(rank).seat
     }
 
     // The stretch of the dropped job with this number: its first slot and the slot after its last. Refused for a number that is not
