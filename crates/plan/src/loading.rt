@@ -30,9 +30,7 @@ pub fn load<'a, W: OrderedWeight>(
     let accepted = read::<W>(sheet)?;
     let masks = accepted.masks();
     // A sheet that was read has at most 1,024 masks, so that its calendar is always made.
-    let Ok(calendar) = Listed::new(masks) else {
-        return Err(LoadRefusal::StoreTooShort);
-    };
+    let calendar = Listed::new(masks).unwrap();
     // The reader has seen that a table takes the jobs.
     let filled = if carried_on {
         fill_from(plan, &CarriedOn::new(calendar), store, &accepted)

@@ -49,6 +49,6 @@ impl From<LoadFault> for LoadRefusal {
     ghost from_gives = { λ fault refusal. refusal ≡ Sheet fault };
 
     fn from(fault: LoadFault) -> LoadRefusal {
-        LoadRefusal::Sheet(fault)
+        Self::Sheet(fault)
     }
 }

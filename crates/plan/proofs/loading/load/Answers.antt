@@ -1,6 +1,6 @@
 use Rattle.std.proofs.Common.{◌≡◌, true, false, Err, refl, ap, ◌∙◌, arith}
 use Rattle.std.specs.Result.{is_ok}
-use Rattle.std.proofs.lemmas.Result.{err_from_is_err_and}
+use Rattle.std.proofs.lemmas.Result.{MatchResult-at_ok, err_from_is_err_and}
 use Rattle.plan.specs.declared.refusal.LoadRefusal.TheVariants.{Sheet}
 use Rattle.calls.specs.Moments.{at}
 use Rattle.plan.specs.Plans.{rows_in}
@@ -23,7 +23,8 @@ returns g c =
     let plan = c.if-carried_on.plan in
     let store = c.if-carried_on.store in
     let lent = c.masks-masks.result.now in
-    let calendar = c.in-Ok.ensures.cases.1 in
+    let made = MatchResult-at_ok _ _ c.unwrap-calendar.result c.unwrap-calendar.ensures c.new.ensures.cases in
+    let calendar = made.1 in
     let load = loaded w.CODE w.WIDTH w.encoding w.no_lighter c.args.sheet.now read.masks.now read.records.now read.count a (at (rows_in c.args.plan.now) c.args.store.now) (omega arith) in
     record {
       cases = elim c.if-carried_on.branch [
@@ -32,7 +33,7 @@ returns g c =
             v.if-carried_on.true c.masks-masks.ensures (ap (λ l. l.masks.now) v.new-then-carried_on.ensures.made ∙ calendar) (ap rows_in v.plan-is) v.store-is
             (v.fill_from-filled.ensures.outcome a.jobs (a.listed, a.number))
         | else-carried_on v ↦
-            load c.args.carried_on false lent c.in-Ok.calendar.masks.now (rows_in plan) (rows_in v.fill_from-filled-else-carried_on.new.plan) store v.fill_from-filled-else-carried_on.new.store (is_ok v.fill_from-filled-else-carried_on.result)
+            load c.args.carried_on false lent c.unwrap-calendar.result.masks.now (rows_in plan) (rows_in v.fill_from-filled-else-carried_on.new.plan) store v.fill_from-filled-else-carried_on.new.store (is_ok v.fill_from-filled-else-carried_on.result)
             v.if-carried_on.false c.masks-masks.ensures calendar (ap rows_in v.plan-is) v.store-is
             (v.fill_from-filled-else-carried_on.ensures.outcome a.jobs (a.listed, a.number))
       ];
