@@ -7,7 +7,8 @@ use jobs::terms::Row;
 mod drawn;
 mod rows;
 
-// Up to 256 rows, of which the first `count` are in use; no two of those have one number.
+// Up to 256 rows, of which the first `count` are in use; no two of those have one number. An array with its count: there is no heap, and
+// a table is copied for each call, which the kit's array list is not.
 #[derive(Clone, Copy)]
 pub(crate) struct Table {
     rows: [Row; 256],

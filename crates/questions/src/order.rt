@@ -17,7 +17,8 @@ pub fn in_order<W: OrderedWeight>(rows: &[Row], store: &[W]) -> bool
     if store.len() < rows.len() {
         return false;
     }
-    // By index, since each turn reads two neighbours of the rows and of the store.
+    // By index, as weights in rank order are: each turn reads two neighbours of the rows and of the store, and a closure that reads
+    // weights of any kind by index was not proved.
     for rank in 1..rows.len() {
         if !ranks_before(
             &store[rank - 1],

@@ -53,6 +53,7 @@ pub fn replay<W: OrderedWeight, C: Calendar>(
     ensures opened { rows_in plan.old ≡ [] → Promised (in_force W.OrderedWeight.no_lighter (C.Calendar.mask calendar.now)) [] (at (rows_in plan.old) store.old) (take result calls.now) (take result answers.new) (at (rows_in plan.new) store.new) }
 {
     let performed = calls.len().min(answers.len());
+    // By index. Tried as `calls.iter().zip(answers.iter_mut())`: what is written through such a chain is lost to the proof.
     for i in 0..performed {
         let call = calls[i];
         let answer = perform(plan, calendar, store, call);
