@@ -1,9 +1,6 @@
 use Rattle.std.proofs.Common.{arith}
-use Rattle.questions.proofs.Widening.{widened_none, widened_more, widened_all}
+use Rattle.questions.proofs.Widening.{widened_more, widened_all}
 use Rattle.questions.proofs.stretch.widen.Goals as goal
-
-pub loop-row-init : goal.loop-row-init
-loop-row-init c = widened_none c.args.rows.now c.args.lo c.args.hi
 
 pub loop-row-preserved : goal.loop-row-preserved
 loop-row-preserved c = widened_more _ _ _ _ _ _ _ _ c.loop-row.invariant c.widen_by.ensures.value

@@ -1,4 +1,4 @@
-use Rattle.std.proofs.Common.{◌≡◌, true, ◌++◌, ◌∷◌, [], length, fold, sym, ap, ◌∙◌, subst, ⊎_elim, inl, inr, length-append, arith}
+use Rattle.std.proofs.Common.{◌++◌, ◌∷◌, [], length, fold, sym, ap, ◌∙◌, subst, ⊎_elim, inl, inr, length-append, arith}
 use mathlib.Core.Bool.{beq}
 use Rattle.std.proofs.lemmas.List.Sums.{fold_push}
 use Rattle.questions.proofs.Tallies.{none_where, folded}
