@@ -55,7 +55,7 @@ impl<C: Calendar> Calendar for ClosedStretch<C> {
 
     fn mask(&self, slot: u16) -> u8 {
         let open = self.below.mask(slot);
-        if self.first <= slot && slot < self.past {
+        if (self.first..self.past).contains(&slot) {
             open & !self.links
         } else {
             open
