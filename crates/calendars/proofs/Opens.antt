@@ -3,7 +3,6 @@ use Rattle.std.proofs.Common.{◌≡◌, ℕ, zero, suc, ◌+◌, ◌-◌, ◌*�
 use lib.Count.{ones, ones-ones, ones-le}
 use Rattle.std.specs.List.{sum_by, range_with_len}
 use Rattle.std.proofs.lemmas.List.Sums.{sum_by-cons}
-use Rattle.calendars.specs.Laws.{Laws}
 use Rattle.calendars.specs.Places.{opens}
 
 pub opens_none : (mask : ℕ → ℕ) → opens mask 0 ≡ 0
@@ -47,8 +46,8 @@ opens_beyond mask end h (suc more) =
     ∙ omega (arith, opens_more mask (end + more), ap ones (h (end + more) (omega arith)), ones-ones 0, opens_beyond mask end h more)
 
 -- from slot 1,024 on a calendar has no open link, so its count stays what it is there
-pub none_left : {X : Type 0} (end : X → ℕ) (mask : X → ℕ → ℕ) → Laws end mask → (c : X) (s : ℕ) → 1024 ≤ s → mask c s ≡ 0
-none_left end mask laws c s h = laws.mask_after c s (omega (arith, laws.end_bound c))
+pub none_left : (end : ℕ) (mask : ℕ → ℕ) → end ≤ 1024 → ((s : ℕ) → end ≤ s → mask s ≡ 0) → (s : ℕ) → 1024 ≤ s → mask s ≡ 0
+none_left end mask short after s h = after s (omega arith)
 
 pub opens_all : (mask : ℕ → ℕ) → ((k : ℕ) → 1024 ≤ k → mask k ≡ 0) → (s : ℕ) → 1024 ≤ s → opens mask s ≡ opens mask 1024
 opens_all mask none s h =

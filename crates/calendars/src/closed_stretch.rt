@@ -47,8 +47,6 @@ impl<C: Calendar> Calendar for ClosedStretch<C> {
 
     ghost mask = { λ c s. closed_mask c.first c.past c.links (C.Calendar.mask c.below) s };
 
-    ghost laws = { record { end_bound = λ c. C.Calendar.laws.end_bound c.below; mask_bound = λ c s. closed_bound c.first c.past c.links (C.Calendar.mask c.below) s (C.Calendar.laws.mask_bound c.below s); mask_after = λ c s h. closed_after c.first c.past c.links (C.Calendar.mask c.below) s (C.Calendar.laws.mask_after c.below s h) } };
-
     fn end(&self) -> u16 {
         self.below.end()
     }
@@ -61,4 +59,10 @@ impl<C: Calendar> Calendar for ClosedStretch<C> {
             open
         }
     }
+
+    ghost end_bound = { λ c. C.Calendar.end_bound c.below };
+
+    ghost mask_bound = { λ c s. closed_bound c.first c.past c.links (C.Calendar.mask c.below) s (C.Calendar.mask_bound c.below s) };
+
+    ghost mask_after = { λ c s h. closed_after c.first c.past c.links (C.Calendar.mask c.below) s (C.Calendar.mask_after c.below s h) };
 }

@@ -31,8 +31,6 @@ impl Calendar for Listed<'_> {
 
     ghost mask = { λ c s. listed_mask c.masks.now s };
 
-    ghost laws = { record { end_bound = λ c. listed_end_bound c.masks.now; mask_bound = λ c s. listed_bound c.masks.now s; mask_after = λ c s h. none_after (listed_end c.masks.now) _ s h } };
-
     fn end(&self) -> u16 {
         self.masks.len() as u16
     }
@@ -40,4 +38,10 @@ impl Calendar for Listed<'_> {
     fn mask(&self, slot: u16) -> u8 {
         self.masks.get(usize::from(slot)).copied().unwrap_or(0)
     }
+
+    ghost end_bound = { λ c. listed_end_bound c.masks.now };
+
+    ghost mask_bound = { λ c s. listed_bound c.masks.now s };
+
+    ghost mask_after = { λ c s h. none_after (listed_end c.masks.now) _ s h };
 }

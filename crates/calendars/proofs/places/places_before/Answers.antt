@@ -13,13 +13,13 @@ sum-requires-clause-fits g c =
     let mask = g.C.Calendar.mask c.args.c.now in
     fits_by_from_yields_list (λ s. ones (mask s)) (range_with_len 0 c.min.result) c.map.result _
     (YieldsList-from_map _ (λ s. ones (mask s)) (YieldsList-from_range 0 _ _ c.map.ensures.source (omega arith)) c.map.ensures.closure (λ x r q k. search rules))
-    (omega (arith, opens_summed mask c.min.result, opens_few mask (g.C.Calendar.laws.mask_bound c.args.c.now) c.min.result))
+    (omega (arith, opens_summed mask c.min.result, opens_few mask (g.met.C.Calendar.mask_bound c.args.c.now) c.min.result))
 
 pub returns : goal.returns
 returns g c =
     let mask = g.C.Calendar.mask c.args.c.now in
-    let none : (k : ℕ) → 1024 ≤ k → mask k ≡ 0 = none_left _ _ g.C.Calendar.laws c.args.c.now in
-    let few = opens_few mask (g.C.Calendar.laws.mask_bound c.args.c.now) c.min.result in
+    let none : (k : ℕ) → 1024 ≤ k → mask k ≡ 0 = none_left _ mask (g.met.C.Calendar.end_bound c.args.c.now) (g.met.C.Calendar.mask_after c.args.c.now) in
+    let few = opens_few mask (g.met.C.Calendar.mask_bound c.args.c.now) c.min.result in
     let counted : c.sum.result ≡ opens mask c.min.result
     = sum_by_from_yields_List (λ s. ones (mask s)) (range_with_len 0 c.min.result) c.map.result _ c.sum.ensures.ran
     (YieldsList-from_map _ (λ s. ones (mask s)) (YieldsList-from_range 0 _ _ c.map.ensures.source (omega arith)) c.map.ensures.closure (λ x r q k. search rules))

@@ -27,5 +27,5 @@ returns-clause-answers g c =
     let m = g.C.Calendar.mask c.args.c.now in
     let n = g.D.Calendar.mask c.args.d.now in
     answered m n 1024 c.all.result
-    (λ s h. none_left _ _ g.C.Calendar.laws c.args.c.now s h ∙ sym (none_left _ _ g.D.Calendar.laws c.args.d.now s h))
+    (λ s h. none_left _ m (g.met.C.Calendar.end_bound c.args.c.now) (g.met.C.Calendar.mask_after c.args.c.now) s h ∙ sym (none_left _ n (g.met.D.Calendar.end_bound c.args.d.now) (g.met.D.Calendar.mask_after c.args.d.now) s h))
     (cases_from_all _ _ _ (λ s. m s ≡ n s) (λ s. m s ≡ n s → ⊥) c.all.ensures.ran (YieldsList-from_range 0 1024 1024 (cc) (omega arith)) (λ x q k. search (rules, tests)) (λ x q k. search (rules, tests)))
