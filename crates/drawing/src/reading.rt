@@ -7,15 +7,6 @@ use calendars::calendar::Calendar;
 use calendars::links::kth_open_link;
 use jobs::terms::Seat;
 
-// No row has a seat.
-fn unseat(seats: &mut [Option<Seat>])
-    ensures leaves { (i : ℕ) → i < length seats.new → slice_index_or seats.new i None ≡ None }
-{
-    for seat in seats.iter_mut() {
-        *seat = None;
-    }
-}
-
 // Seats the rows at the open places of one slot, those from `first` up to, and without, `past`.
 fn read_slot<C: Calendar>(
     calendar: &C,
@@ -36,9 +27,8 @@ fn read_slot<C: Calendar>(
     for p in first..past {
         let row = places[p as usize] as usize;
         if row < seats.len() {
-            match kth_open_link(calendar, slot, (p - first) as u8) {
-                Some(link) => seats[row] = Some(Seat { slot, link }),
-                None => {}
+            if let Some(link) = kth_open_link(calendar, slot, (p - first) as u8) {
+                seats[row] = Some(Seat { slot, link });
             }
         }
     }
@@ -57,7 +47,7 @@ pub(crate) fn read_seats<C: Calendar>(
     requires once { Once places.now (slice_index counts.now 1024) (length seats.old) }
     ensures leaves { SeatsRead (C.Calendar.mask calendar.now) places.now seats.new (slice_index counts.now 1024) }
 {
-    unseat(seats);
+    seats.fill(None);
     for s in 0..1024u16 {
         read_slot(
             calendar,

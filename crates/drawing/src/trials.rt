@@ -94,15 +94,6 @@ fn trial(rows: &[Row], counts: &[u16], places: &mut [u16], x: usize) -> bool
     }
 }
 
-// Empties each place.
-fn clear(places: &mut [u16])
-    ensures leaves { (q : ℕ) → q < length places.new → slice_index places.new q ≡ 65535 }
-{
-    for p in places.iter_mut() {
-        *p = EMPTY;
-    }
-}
-
 // Tries the rows in rank order, from empty places on.
 pub(crate) fn deal(rows: &[Row], counts: &[u16], places: &mut [u16])
     requires drawable { Drawable rows.now }
@@ -110,7 +101,7 @@ pub(crate) fn deal(rows: &[Row], counts: &[u16], places: &mut [u16])
     requires room { slice_index counts.now 1024 ≤ length places.old }
     ensures leaves { Chosen rows.now counts.now places.new }
 {
-    clear(places);
+    places.fill(EMPTY);
     for x in 0..rows.len() {
         trial(rows, counts, places, x);
     }

@@ -1,4 +1,4 @@
-use Rattle.std.proofs.Common.{◌≡◌, length, arith}
+use Rattle.std.proofs.Common.{◌≡◌, length, is_ok, arith}
 use Rattle.drawing.specs.Draw.{Drawable}
 use Rattle.drawing.proofs.Places.{counted, numbered_from}
 use Rattle.drawing.proofs.Links.{few, drawn}
@@ -8,19 +8,19 @@ pub deal-requires : goal.deal-requires
 deal-requires g c =
     let mask = g.C.Calendar.mask c.args.calendar.now in
     let counts = c.place_counts.new.counts in
-    let w = counted mask counts c.place_counts.result c.place_counts.ensures.answers in
+    let w = counted mask counts (is_ok c.place_counts.result) c.place_counts.ensures.answers in
     record {
       drawable = c.drawable.ensures.answers.0 c.if-not-drawable.false;
       numbered = numbered_from mask counts w.0 w.1;
-      room = few mask (g.C.Calendar.laws.mask_bound c.args.calendar.now) counts w.0 w.1;
+      room = few mask (g.met.C.Calendar.mask_bound c.args.calendar.now) counts w.0 w.1;
     }
 
 pub read_seats-requires : goal.read_seats-requires
 read_seats-requires g c =
     let mask = g.C.Calendar.mask c.args.calendar.now in
     let counts = c.place_counts.new.counts in
-    let w = counted mask counts c.place_counts.result c.place_counts.ensures.answers in
-    let f = few mask (g.C.Calendar.laws.mask_bound c.args.calendar.now) counts w.0 w.1 in
+    let w = counted mask counts (is_ok c.place_counts.result) c.place_counts.ensures.answers in
+    let f = few mask (g.met.C.Calendar.mask_bound c.args.calendar.now) counts w.0 w.1 in
     record {
       long = w.0;
       counted = w.1;
@@ -32,7 +32,7 @@ pub returns : goal.returns
 returns g c =
     let mask = g.C.Calendar.mask c.args.calendar.now in
     let counts = c.place_counts.new.counts in
-    let w = counted mask counts c.place_counts.result c.place_counts.ensures.answers in
+    let w = counted mask counts (is_ok c.place_counts.result) c.place_counts.ensures.answers in
     let chosen = c.deal.ensures.leaves in
     let drawable : Drawable c.args.rows.now = c.drawable.ensures.answers.0 c.if-not-drawable.false in
     let same = c.if-seats-rows.false in
@@ -41,7 +41,7 @@ returns g c =
       answers = (
         (drawable, same),
         after,
-        drawn mask (g.C.Calendar.laws.mask_bound c.args.calendar.now) counts w.0 w.1 c.args.rows.now c.deal.new.places c.read_seats.new.seats
+        drawn mask (g.met.C.Calendar.mask_bound c.args.calendar.now) counts w.0 w.1 c.args.rows.now c.deal.new.places c.read_seats.new.seats
             drawable after chosen.0 chosen.1 chosen.2 c.read_seats.ensures.leaves,
       );
     }

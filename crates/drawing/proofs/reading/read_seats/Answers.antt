@@ -9,8 +9,8 @@ use Rattle.drawing.proofs.reading.read_seats.Goals as goal
 pub loop-s-init : goal.loop-s-init
 loop-s-init g c =
     let mask = g.C.Calendar.mask c.args.calendar.now in
-    seating_none mask c.args.places.now c.unseat.new.seats (get_or c.args.counts.now 0 0)
-    (c.requires.counted 0 (omega arith) ∙ opens_none mask) c.unseat.ensures.leaves
+    seating_none mask c.args.places.now c.fill.new.self (get_or c.args.counts.now 0 0)
+    (c.requires.counted 0 (omega arith) ∙ opens_none mask) (search rules)
 
 pub read_slot-requires : goal.read_slot-requires
 read_slot-requires g c =

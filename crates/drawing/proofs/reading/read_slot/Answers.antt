@@ -3,11 +3,11 @@ use lib.Count.{ones-le}
 use Rattle.drawing.specs.Seats.{Once, SeatsRead}
 use Rattle.drawing.proofs.Seating.{seating_skip, seating_more, seat_here}
 use Rattle.drawing.proofs.reading.read_slot.Goals as goal
-use Rattle.drawing.proofs.reading.read_slot.Goals.{then-row-seats+in-Some, then-row-seats+in-None, else-row-seats}
+use Rattle.drawing.proofs.reading.read_slot.Goals.{then-row-seats+in-Some, then-row-seats+in_default, else-row-seats}
 
 pub overflow_cast-p : goal.overflow_cast-p
 overflow_cast-p g c =
-    let m = g.C.Calendar.laws.mask_bound c.args.calendar.now c.args.slot in
+    let m = g.met.C.Calendar.mask_bound c.args.calendar.now c.args.slot in
     let o = ones-le 8 (g.C.Calendar.mask c.args.calendar.now c.args.slot) m in
     omega arith
 
@@ -27,7 +27,7 @@ loop-p-preserved g c =
           (seating_more mask at out p c.loop-p.invariant c.args.past c.loop-p-test.true
           (subst (λ n. Once at c.args.past n) (sym long) c.requires.once) w.if-row-seats.true (record { slot = slot; link = w.in-Some.link })
           (seat_here mask slot p w.in-Some.link c.args.first c.requires.slots c.requires.begins from w.in-Some.ensures.cases.1))
-      | then-row-seats+in-None w ↦ (let few = w.in-None.ensures.cases in let taken = c.loop-p-test.true in absurd (omega arith))
+      | then-row-seats+in_default w ↦ (let few = w.in_default.ensures.cases in let taken = c.loop-p-test.true in absurd (omega arith))
       | else-row-seats w ↦
           subst (λ ys. SeatsRead mask at ys (p + 1)) (sym w.seats-is) (seating_skip mask at out p c.loop-p.invariant w.if-row-seats.false)
     ]

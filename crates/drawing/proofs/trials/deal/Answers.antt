@@ -1,4 +1,4 @@
-use Rattle.std.proofs.Common.{◌<◌, false, length, arith}
+use Rattle.std.proofs.Common.{◌≡◌, ◌<◌, false, length, get_or, arith, rules}
 use Rattle.dealing.proofs.Keeping.{also}
 use Rattle.drawing.proofs.InTurn.{trials_none, trials_more, trials_all}
 use Rattle.drawing.proofs.trials.deal.Goals as goal
@@ -6,11 +6,12 @@ use Rattle.drawing.proofs.trials.deal.Goals as goal
 pub loop-x-init : goal.loop-x-init
 loop-x-init c = (
   λ _. false,
-  trials_none c.args.rows.now c.args.counts.now (λ _. false) c.clear.new.places
+  trials_none c.args.rows.now c.args.counts.now (λ _. false) c.fill.new.self
       (λ q l.
-      let in-range : q < length c.clear.new.places = omega arith in
+      let in-range : q < length c.fill.new.self = omega arith in
       let few = c.requires.drawable.few in
-      omega (arith, c.clear.ensures.leaves q in-range)),
+      let empty : get_or c.fill.new.self q 0 ≡ 65535 = search rules in
+      omega arith),
 )
 
 pub loop-x-preserved : goal.loop-x-preserved
