@@ -6,7 +6,7 @@ ghost use Rattle.drawing.specs.Draw.{Draws};
 
 use crate::checking::drawable;
 use crate::reading::read_seats;
-use crate::trials::deal;
+use crate::trials::{Places, Trials};
 use calendars::calendar::Calendar;
 use calendars::places::place_counts;
 use jobs::terms::{Row, Seat};
@@ -33,9 +33,13 @@ pub fn draw<C: Calendar>(
         return Err(NotDrawable);
     }
     let mut counts = [0u16; 1025];
-    let mut places = [0u16; 8192];
     place_counts(calendar, &mut counts).unwrap();
-    deal(rows, &counts, &mut places);
+    let mut places: Places = [None; 8192];
+    let trials = Trials {
+        rows,
+        counts: &counts,
+    };
+    trials.deal(&mut places);
     read_seats(calendar, &counts, &places, seats);
     Ok(())
 }

@@ -1,4 +1,4 @@
-use Rattle.std.proofs.Common.{◌≡◌, ℕ, ◌≤◌, length, true, false, arith, rules, tests}
+use Rattle.std.proofs.Common.{◌≤◌, length, arith, rules, tests}
 use Rattle.std.proofs.lemmas.Iterator.{cases_from_all, YieldsList-from_range}
 use Rattle.placing.specs.Placing.{row}
 use Rattle.drawing.proofs.Checked.{Taken, checked}

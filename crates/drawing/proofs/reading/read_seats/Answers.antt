@@ -1,5 +1,6 @@
-use Rattle.std.proofs.Common.{◌≡◌, ◌+◌, length, get_or, ◌∙◌, subst, arith, rules}
+use Rattle.std.proofs.Common.{◌≡◌, ◌+◌, length, get_or, sym, ◌∙◌, subst, arith, rules}
 use Rattle.calendars.proofs.Opens.{opens_none}
+use Rattle.drawing.specs.Trial.{OfRows}
 use Rattle.drawing.specs.Seats.{SeatsRead}
 use Rattle.drawing.proofs.Slots.{counts_rise}
 use Rattle.drawing.proofs.Places.{count_more, numbered_from}
@@ -17,13 +18,15 @@ read_slot-requires g c =
     let mask = g.C.Calendar.mask c.args.calendar.now in
     let counts = c.args.counts.now in
     let s = c.loop-s.s in
-    let rises = counts_rise counts (numbered_from mask counts c.requires.long c.requires.counted) (s + 1) 1024 (omega arith) (omega arith) in
+    let rises = counts_rise counts (numbered_from mask counts (search rules) c.requires.counted) (s + 1) 1024 (omega arith) (omega arith) in
     let long : length c.loop-s.seats ≡ length c.args.seats.now = search rules in
     record {
       slots = c.loop-s-test.true;
       begins = c.requires.counted s (omega arith);
-      ends = count_more mask counts c.requires.long c.requires.counted s (omega arith);
+      ends = count_more mask counts (search rules) c.requires.counted s (omega arith);
       room = omega arith;
+      few = omega arith;
+      seated = subst (OfRows c.args.places.now) (sym long) c.requires.seated;
       once = λ p q l m h. c.requires.once p q (omega arith) (omega arith) (omega arith);
       read = c.loop-s.invariant;
     }
