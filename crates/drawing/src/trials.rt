@@ -15,6 +15,7 @@ use placing::predicates::goes_first;
 pub(crate) type Places = [Option<u8>; 8192];
 
 // What a trial reads: the rows, and in `counts[s]` how many open places lie in the slots below s.
+// The places stand outside: a method that wrote them through `&mut self` would owe clauses that the rows and counts stay.
 #[derive(Drop)]
 pub(crate) struct Trials<'a> {
     pub(crate) rows: &'a [Row],
@@ -52,6 +53,7 @@ impl Trials<'_> {
     {
         let mut carried = x;
         let mut p = self.first_place(self.rows[x].ready);
+        // not a range: its end moves with the row in hand
         while p < self.first_place(self.rows[carried].deadline) {
             let Some(sitting) = places[p] else {
                 return Some(p);
