@@ -30,10 +30,8 @@ pub fn listed_closed(
     ensures cases { MatchResult result (λ m. (length masks.now ≤ 1024) × (first ≤ past) × (past ≤ 1024) × (m ≡ closed_mask first past closed (carried_mask (length masks.now) (listed_mask masks.now)) slot)) (λ f. ListedFault (length masks.now) f ⊎ ((length masks.now ≤ 1024) × StretchFault first past f)) }
 {
     let carried = CarriedOn::new(Listed::new(masks)?);
-    match ClosedStretch::new(carried, first, past, closed) {
-        Ok(pile) => Ok(pile.mask(slot)),
-        Err((fault, _)) => Err(fault),
-    }
+    let pile = ClosedStretch::new(carried, first, past, closed).map_err(|(fault, _)| fault)?;
+    Ok(pile.mask(slot))
 }
 
 // The mask of a slot of any calendar, only lent, that is carried on.

@@ -1,5 +1,4 @@
 pub mod Bounds
 pub mod Faults
-pub mod Laws
 pub mod Masks
 pub mod Places

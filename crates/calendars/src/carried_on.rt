@@ -26,8 +26,6 @@ impl<C: Calendar> Calendar for CarriedOn<C> {
 
     ghost mask = { λ c s. carried_mask (C.Calendar.end c.below) (C.Calendar.mask c.below) s };
 
-    ghost laws = { record { end_bound = λ _. lit≤ tt; mask_bound = λ c s. carried_bound (C.Calendar.end c.below) (C.Calendar.mask c.below) s (C.Calendar.laws.mask_bound c.below); mask_after = λ c s h. none_after 1024 _ s h } };
-
     fn end(&self) -> u16 {
         1024
     }
@@ -45,4 +43,10 @@ impl<C: Calendar> Calendar for CarriedOn<C> {
             self.below.mask(end - 1)
         }
     }
+
+    ghost end_bound = { λ _. lit≤ tt };
+
+    ghost mask_bound = { λ c s. carried_bound (C.Calendar.end c.below) (C.Calendar.mask c.below) s (C.Calendar.mask_bound c.below) };
+
+    ghost mask_after = { λ c s h. none_after 1024 _ s h };
 }

@@ -47,18 +47,22 @@ impl<C: Calendar> Calendar for ClosedStretch<C> {
 
     ghost mask = { λ c s. closed_mask c.first c.past c.links (C.Calendar.mask c.below) s };
 
-    ghost laws = { record { end_bound = λ c. C.Calendar.laws.end_bound c.below; mask_bound = λ c s. closed_bound c.first c.past c.links (C.Calendar.mask c.below) s (C.Calendar.laws.mask_bound c.below s); mask_after = λ c s h. closed_after c.first c.past c.links (C.Calendar.mask c.below) s (C.Calendar.laws.mask_after c.below s h) } };
-
     fn end(&self) -> u16 {
         self.below.end()
     }
 
     fn mask(&self, slot: u16) -> u8 {
         let open = self.below.mask(slot);
-        if self.first <= slot && slot < self.past {
+        if (self.first..self.past).contains(&slot) {
             open & !self.links
         } else {
             open
         }
     }
+
+    ghost end_bound = { λ c. C.Calendar.end_bound c.below };
+
+    ghost mask_bound = { λ c s. closed_bound c.first c.past c.links (C.Calendar.mask c.below) s (C.Calendar.mask_bound c.below s) };
+
+    ghost mask_after = { λ c s h. closed_after c.first c.past c.links (C.Calendar.mask c.below) s (C.Calendar.mask_after c.below s h) };
 }

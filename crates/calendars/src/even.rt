@@ -37,8 +37,6 @@ impl Calendar for Even {
 
     ghost mask = { λ c s. even_mask c.links c.end s };
 
-    ghost laws = { record { end_bound = λ c. c.short; mask_bound = λ c s. even_bound c.links c.end s c.few; mask_after = λ c s h. none_after c.end _ s h } };
-
     fn end(&self) -> u16 {
         self.end
     }
@@ -50,4 +48,10 @@ impl Calendar for Even {
             0
         }
     }
+
+    ghost end_bound = { λ c. c.short };
+
+    ghost mask_bound = { λ c s. even_bound c.links c.end s c.few };
+
+    ghost mask_after = { λ c s h. none_after c.end _ s h };
 }

@@ -6,8 +6,6 @@ impl<C: Calendar> Calendar for &C {
 
     ghost mask = { λ c s. C.Calendar.mask c.now s };
 
-    ghost laws = { record { end_bound = λ c. C.Calendar.laws.end_bound c.now; mask_bound = λ c s. C.Calendar.laws.mask_bound c.now s; mask_after = λ c s h. C.Calendar.laws.mask_after c.now s h } };
-
     fn end(&self) -> u16 {
         Calendar::end(*self)
     }
@@ -15,4 +13,10 @@ impl<C: Calendar> Calendar for &C {
     fn mask(&self, slot: u16) -> u8 {
         Calendar::mask(*self, slot)
     }
+
+    ghost end_bound = { λ c. C.Calendar.end_bound c.now };
+
+    ghost mask_bound = { λ c s. C.Calendar.mask_bound c.now s };
+
+    ghost mask_after = { λ c s h. C.Calendar.mask_after c.now s h };
 }

@@ -15,14 +15,7 @@ pub fn kth_open_link<C: Calendar>(c: &C, slot: u16, k: u8) -> Option<u8>
 fn kth_bit(mask: u8, k: u8) -> Option<u8>
     ensures cases { MatchOption result (count_ones mask ≤ k) (λ bit. (k < count_ones mask) × KthOpen mask k bit) }
 {
-    let mut rest = k;
-    for bit in 0..8u8 {
-        if (mask >> bit) % 2 == 1 {
-            if rest == 0 {
-                return Some(bit);
-            }
-            rest -= 1;
-        }
-    }
-    None
+    (0..8u8)
+        .filter(|bit| (mask >> *bit) % 2 == 1)
+        .nth(usize::from(k))
 }

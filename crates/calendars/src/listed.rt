@@ -11,6 +11,7 @@ use crate::fault::CalendarFault;
 #[derive(Drop)]
 pub struct Listed<'a> {
     masks: &'a [u8],
+    ghost short: { length masks.now ≤ 1024 },
 }
 
 impl<'a> Listed<'a> {
@@ -30,17 +31,17 @@ impl Calendar for Listed<'_> {
 
     ghost mask = { λ c s. listed_mask c.masks.now s };
 
-    ghost laws = { record { end_bound = λ c. listed_end_bound c.masks.now; mask_bound = λ c s. listed_bound c.masks.now s; mask_after = λ c s h. none_after (listed_end c.masks.now) _ s h } };
-
     fn end(&self) -> u16 {
-        self.masks.len().min(1024) as u16
+        self.masks.len() as u16
     }
 
     fn mask(&self, slot: u16) -> u8 {
-        if slot < 1024 && (slot as usize) < self.masks.len() {
-            self.masks[slot as usize]
-        } else {
-            0
-        }
+        self.masks.get(usize::from(slot)).copied().unwrap_or(0)
     }
+
+    ghost end_bound = { λ c. listed_end_bound c.masks.now };
+
+    ghost mask_bound = { λ c s. listed_bound c.masks.now s };
+
+    ghost mask_after = { λ c s h. none_after (listed_end c.masks.now) _ s h };
 }

@@ -1,25 +1,27 @@
 -- The loops of a trial, step by step. Assumes nothing.
 --   Carrying rows counts at x p c    the trial of row x has come to place p with row c in hand
+--   taken_place, empty_place         who sits at a place
 --   stored, beyond                   what a write at p leaves below, and what beyond
-use Rattle.std.proofs.Common.{◌≡◌, ℕ, ◌+◌, ◌<◌, ◌≤◌, Bool, true, false, ◌&&◌, leb, List, length, get_or, set, sym, ap, ◌∙◌, subst, inl, inr, add-one, arith}
+--   seats_row                        none but the first k rows sits at a place after it
+use Rattle.std.proofs.Common.{◌≡◌, ℕ, ◌+◌, ◌<◌, ◌≤◌, Bool, true, false, ◌&&◌, leb, List, length, get_or, set, Option, Some, None, unwrap_or, sym, refl, ap, ◌∙◌, subst, inl, inr, add-one, arith}
 use Rattle.std.proofs.lemmas.Bool.{cases_eq, le-leb}
 use Rattle.std.proofs.lemmas.List.{get_or-set_same, get_or-set_other}
 use Rattle.jobs.specs.declared.terms.Row.{Row}
 use Rattle.placing.specs.Placing.{row}
 use Rattle.drawing.specs.Slots.{board_by, Numbered}
 use Rattle.drawing.specs.Draw.{Drawable}
-use Rattle.drawing.specs.Trial.{order, seat_of, start, carried_in, settled_in, PassedIn, SucceedsIn, FailsIn}
+use Rattle.drawing.specs.Trial.{order, seat_of, start, carried_in, settled_in, PassedIn, SucceedsIn, FailsIn, OfRows}
 use Rattle.drawing.proofs.Slots.{counts_rise, in_slot, below_slot}
 use Rattle.drawing.proofs.Walk.{carried_keep, carried_swap, carried_start}
 
-pub record Carrying (rows : List Row) (counts at : List ℕ) (x p c : ℕ) : Type 0 where
+pub record Carrying (rows : List Row) (counts : List ℕ) (at : List (Option ℕ)) (x p c : ℕ) : Type 0 where
   pub small : c < length rows
   pub from : start rows counts x ≤ p
   pub upto : p ≤ get_or counts 1024 0
   pub is : c ≡ carried_in rows counts at x p
   pub passed : PassedIn rows counts at x p
 
-module _ (rows : List Row) (counts at : List ℕ) (x : ℕ) (drawable : Drawable rows) (numbered : Numbered counts) (within : x < length rows) (early : (row rows x).ready ≤ 1024) where
+module _ (rows : List Row) (counts : List ℕ) (at : List (Option ℕ)) (x : ℕ) (drawable : Drawable rows) (numbered : Numbered counts) (within : x < length rows) (early : (row rows x).ready ≤ 1024) where
   pub carrying_start : Carrying rows counts at x (start rows counts x) x
   carrying_start = record {
     small = within;
@@ -90,13 +92,39 @@ module _ (rows : List Row) (counts at : List ℕ) (x : ℕ) (drawable : Drawable
       λ _. subst (λ v. (row rows v).deadline ≤ (board_by counts).slot p) carrying.is (in_slot counts numbered (row rows c).deadline p (drawable.deadlines c carrying.small) h),
     )
 
+-- who sits at a place that is taken, and at one that is not
+pub taken_place : (xs : List (Option ℕ)) (p i : ℕ) → get_or xs p None ≡ Some i → seat_of xs p ≡ i
+taken_place xs p i e = ap (λ o. unwrap_or o 256) e
+
+nobody : (o : Option ℕ) → ((i : ℕ) → o ≡ Some i → ⊥) → unwrap_or o 256 ≡ 256
+nobody None h = refl
+nobody (Some i) h = absurd (h i refl)
+
+pub empty_place : (xs : List (Option ℕ)) (p : ℕ) → ((i : ℕ) → get_or xs p None ≡ Some i → ⊥) → seat_of xs p ≡ 256
+empty_place xs p h = nobody (get_or xs p None) h
+
 -- a write at p: what it leaves below, and what beyond
-pub stored : (f : ℕ → ℕ) (xs : List ℕ) (p v : ℕ) → p < length xs → v ≡ f p → ((q : ℕ) → q < p → get_or xs q 0 ≡ f q) → (q : ℕ) → q < p + 1 → get_or (set xs p v) q 0 ≡ f q
+pub stored : (f : ℕ → ℕ) (xs : List (Option ℕ)) (p v : ℕ) → p < length xs → v ≡ f p → ((q : ℕ) → q < p → seat_of xs q ≡ f q) → (q : ℕ) → q < p + 1 →
+    seat_of (set xs p (Some v)) q ≡ f q
 stored f xs p v l e h q m =
     elim (cases_eq q p) [
-      | inl z ↦ ap (λ i. get_or (set xs p v) i 0) z ∙ (get_or-set_same xs p v 0 l ∙ (e ∙ ap f (sym z)))
-      | inr z ↦ get_or-set_other xs p q v 0 z ∙ h q (omega arith)
+      | inl z ↦ ap (seat_of (set xs p (Some v))) z ∙ (sits (get_or-set_same xs p (Some v) None l) ∙ (e ∙ ap f (sym z)))
+      | inr z ↦ sits (get_or-set_other xs p q (Some v) None z) ∙ h q (omega arith)
     ]
+  where
+    sits : {a b : Option ℕ} → a ≡ b → unwrap_or a 256 ≡ unwrap_or b 256
+    sits e = ap (λ o. unwrap_or o 256) e
 
-pub beyond : (f : ℕ → ℕ) (xs : List ℕ) (p v : ℕ) → ((q : ℕ) → p ≤ q → get_or xs q 0 ≡ f q) → (q : ℕ) → p + 1 ≤ q → get_or (set xs p v) q 0 ≡ f q
-beyond f xs p v h q m = get_or-set_other xs p q v 0 (λ z. omega arith) ∙ h q (omega arith)
+pub beyond : (f : ℕ → ℕ) (xs : List (Option ℕ)) (p v : ℕ) → ((q : ℕ) → p ≤ q → seat_of xs q ≡ f q) → (q : ℕ) → p + 1 ≤ q → seat_of (set xs p (Some v)) q ≡ f q
+beyond f xs p v h q m = ap (λ o. unwrap_or o 256) (get_or-set_other xs p q (Some v) None (λ z. omega arith)) ∙ h q (omega arith)
+
+-- it seats a row
+pub seats_row : (xs : List (Option ℕ)) (k p v : ℕ) → p < length xs → OfRows xs k → v < k → OfRows (set xs p (Some v)) k
+seats_row xs k p v l h few q i e =
+    elim (cases_eq q p) [
+      | inl z ↦
+          let here : Some v ≡ Some i = sym (ap (λ j. get_or (set xs p (Some v)) j None) z ∙ get_or-set_same xs p (Some v) None l) ∙ e in
+          let same : v ≡ i = cc in
+          omega arith
+      | inr z ↦ h q i (sym (get_or-set_other xs p q (Some v) None z) ∙ e)
+    ]

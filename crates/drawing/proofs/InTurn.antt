@@ -1,6 +1,6 @@
 -- The rows tried in rank order, one after the other. Assumes nothing.
 --   AfterTrials rows counts kept at x    after the trials of the rows below x: who is kept of them, and the places dealt to the kept
-use Rattle.std.proofs.Common.{◌≡◌, ℕ, ◌+◌, ◌<◌, ◌≤◌, Bool, true, false, List, length, get_or, sym, ap, ◌∙◌, subst, inl, inr, arith}
+use Rattle.std.proofs.Common.{◌≡◌, ℕ, ◌+◌, ◌<◌, ◌≤◌, Bool, true, false, List, length, get_or, Option, sym, ap, ◌∙◌, subst, inl, inr, arith}
 use Rattle.std.proofs.lemmas.Bool.{cases_Bool, cases_eq, cases_lt}
 use Rattle.std.proofs.lemmas.Bool.Decides.{nat_tests}
 use Rattle.jobs.specs.declared.terms.Row.{Row}
@@ -22,13 +22,13 @@ dealt_like b t first K L k at same s = record {
   foremost = λ p i l f h e. s.foremost p i l f h (same i h ∙ e);
 }
 
-all_like : (rows : List Row) (counts : List ℕ) (K L : ℕ → Bool) (at : List ℕ) → ((j : ℕ) → j < length rows → K j ≡ L j) → DealtToAll rows counts K at → DealtToAll rows counts L at
+all_like : (rows : List Row) (counts : List ℕ) (K L : ℕ → Bool) (at : List (Option ℕ)) → ((j : ℕ) → j < length rows → K j ≡ L j) → DealtToAll rows counts K at → DealtToAll rows counts L at
 all_like rows counts K L at same f = record {
   dealt = dealt_like (board_by counts) (table_of rows) (order rows) K L (get_or counts 1024 0) (seat_of at) same f.dealt;
   seats = λ i l e. f.seats i l (same i l ∙ e);
 }
 
-pub record AfterTrials (rows : List Row) (counts : List ℕ) (kept : ℕ → Bool) (at : List ℕ) (x : ℕ) : Type 0 where
+pub record AfterTrials (rows : List Row) (counts : List ℕ) (kept : ℕ → Bool) (at : List (Option ℕ)) (x : ℕ) : Type 0 where
   pub all : DealtToAll rows counts (below kept x) at
   pub fits : (i : ℕ) → i < x → kept i ≡ true → Placing (board_by counts) (table_of rows) (adding kept i)
   pub refused : (i : ℕ) → i < x → kept i ≡ false → Placing (board_by counts) (table_of rows) (adding kept i) → ⊥
@@ -37,7 +37,7 @@ none_below : (kept : ℕ → Bool) (i : ℕ) → below kept 0 i ≡ true → ⊥
 none_below kept i h = let l = (below_parts kept 0 i h).0 in omega arith
 
 module _ (rows : List Row) (counts : List ℕ) where
-  pub trials_none : (kept : ℕ → Bool) (at : List ℕ) → ((q : ℕ) → q < get_or counts 1024 0 → length rows ≤ get_or at q 0) → AfterTrials rows counts kept at 0
+  pub trials_none : (kept : ℕ → Bool) (at : List (Option ℕ)) → ((q : ℕ) → q < get_or counts 1024 0 → length rows ≤ seat_of at q) → AfterTrials rows counts kept at 0
   trials_none kept at empty = record {
     all = record {
       dealt = record {
@@ -51,7 +51,7 @@ module _ (rows : List Row) (counts : List ℕ) where
     refused = λ i l. absurd (omega arith);
   }
 
-  pub trials_all : (kept : ℕ → Bool) (at : List ℕ) (x : ℕ) → length rows ≤ x → AfterTrials rows counts kept at x → Chosen rows counts at
+  pub trials_all : (kept : ℕ → Bool) (at : List (Option ℕ)) (x : ℕ) → length rows ≤ x → AfterTrials rows counts kept at x → Chosen rows counts at
   trials_all kept at x h d = (
     kept,
     record { fits = λ i l. d.fits i (omega arith); refused = λ i l. d.refused i (omega arith) },
@@ -88,7 +88,7 @@ module _ (rows : List Row) (counts : List ℕ) where
     back : (i : ℕ) → i ≤ x → Placing (board_by counts) (table_of rows) (adding then i) → Placing (board_by counts) (table_of rows) (adding kept i)
     back i l s = part (board_by counts) (table_of rows) (adding then i) (adding kept i) s (λ j _ e. adding_also kept x r i j l ∙ e)
 
-    pub trials_more : (at new : List ℕ) → AfterTrials rows counts kept at x →
+    pub trials_more : (at new : List (Option ℕ)) → AfterTrials rows counts kept at x →
         (r ≡ true → DealtToAll rows counts (adding kept x) new) →
         (r ≡ false → Placing (board_by counts) (table_of rows) (adding kept x) → ⊥) → (r ≡ false → new ≡ at) → AfterTrials rows counts then new (x + 1)
     trials_more at new d seats refuses unchanged = record {

@@ -2,6 +2,7 @@
 use Rattle.std.proofs.Common.{◌≡◌, ℕ, zero, suc, ◌+◌, ◌*◌, ◌/◌, ◌<◌, ◌≤◌, Bool, true, List, [], ◌∷◌, length, get_or, is_some, Some, None, Option, sym, refl, ap, ◌∙◌, subst, inl, inr, arith, MatchOption}
 use Rattle.std.proofs.lemmas.Bool.{cases_Bool, both_ways, cond-true, cond-false}
 use Rattle.calendars.specs.Places.{opens}
+use Rattle.calendars.proofs.Opens.{opens_few}
 use Rattle.jobs.specs.declared.terms.Row.{Row}
 use Rattle.jobs.specs.declared.terms.Seat.{Seat}
 use Rattle.dealing.specs.Boards.{Table, Board}
@@ -21,7 +22,7 @@ use Rattle.drawing.specs.Draw.{Drawable, seated}
 use Rattle.drawing.specs.Seats.{SeatAt, SeatsRead, open_at, open_before, row_at}
 use Rattle.drawing.specs.Trial.{order, seat_of, DealtToAll}
 use Rattle.drawing.proofs.InTurn.{dealt_like}
-use Rattle.drawing.proofs.Places.{place_into, place_rises, place_onto, place_slot, link_in, opens_few}
+use Rattle.drawing.proofs.Places.{place_into, place_rises, place_onto, place_slot, link_in}
 use Rattle.drawing.proofs.Renumber.{greedy_up, dealt_up}
 
 pub seated_length : (rows : List Row) (seats : List (Option Seat)) → length (seated rows seats) ≡ length rows
@@ -86,25 +87,25 @@ module _ (mask : ℕ → ℕ) (small : (s : ℕ) → mask s < 256) (counts : Lis
   greedy_links : (t : Table) (kept : ℕ → Bool) → Greedy (board_by counts) t kept → Greedy (board_of mask 1024) t kept
   greedy_links = greedy_up (board_of mask 1024) (board_by counts) (open_before mask) (λ p l. refl) into slots (λ v w l _ f. place_rises mask small v w l f) onto
 
-  dealt_links : (rows : List Row) (K : ℕ → Bool) (places : List ℕ) → DealtInOrder (board_by counts) (table_of rows) (order rows) K (get_or counts 1024 0) (seat_of places) →
+  dealt_links : (rows : List Row) (K : ℕ → Bool) (places : List (Option ℕ)) → DealtInOrder (board_by counts) (table_of rows) (order rows) K (get_or counts 1024 0) (seat_of places) →
       DealtInOrder (board_of mask 1024) (table_of rows) (order rows) K (1024 * 8) (row_at mask (length rows) places)
   dealt_links rows K places s =
       dealt_up (board_of mask 1024) (board_by counts) (open_before mask) (λ p l. refl) into slots (λ v w l _ f. place_rises mask small v w l f) onto
       (table_of rows) (order rows) K (seat_of places) s (row_at mask (length rows) places)
-      (λ w f. cond-true (open_at mask w) (get_or places (open_before mask w) 0) (length rows) f)
-      (λ w f. cond-false (open_at mask w) (get_or places (open_before mask w) 0) (length rows) f)
+      (λ w f. cond-true (open_at mask w) (seat_of places (open_before mask w)) (length rows) f)
+      (λ w f. cond-false (open_at mask w) (seat_of places (open_before mask w)) (length rows) f)
 
-  row_at_lem : (places : List ℕ) (n p : ℕ) (seat : Seat) → SeatAt mask p seat → row_at mask n places (seat.slot * 8 + seat.link) ≡ get_or places p 0
+  row_at_lem : (places : List (Option ℕ)) (n p : ℕ) (seat : Seat) → SeatAt mask p seat → row_at mask n places (seat.slot * 8 + seat.link) ≡ seat_of places p
   row_at_lem places n p seat a =
       let w = seat.slot * 8 + seat.link in
       let z = link_in mask small seat.slot seat.link p a.opened.0 a.opened.1 (sym a.place) in
-      cond-true (open_at mask w) (get_or places (open_before mask w) 0) n z.0 ∙ ap (seat_of places) z.1
+      cond-true (open_at mask w) (seat_of places (open_before mask w)) n z.0 ∙ ap (seat_of places) z.1
 
-  module _ (rows : List Row) (places : List ℕ) (seats : List (Option Seat)) (drawable : Drawable rows) (same : length seats ≡ length rows)
+  module _ (rows : List Row) (places : List (Option ℕ)) (seats : List (Option Seat)) (drawable : Drawable rows) (same : length seats ≡ length rows)
       (kept : ℕ → Bool) (greedy : Greedy (board_by counts) (table_of rows) kept) (all : DealtToAll rows counts kept places)
       (read : SeatsRead mask places seats (get_or counts 1024 0)) where
     -- a kept row has the seat of its place
-    its_seat : (i : ℕ) → i < length rows → kept i ≡ true → (q : ℕ) × (p : Seat) × (get_or places q 0 ≡ i) × (get_or seats i None ≡ Some p) × SeatAt mask q p
+    its_seat : (i : ℕ) → i < length rows → kept i ≡ true → (q : ℕ) × (p : Seat) × (seat_of places q ≡ i) × (get_or seats i None ≡ Some p) × SeatAt mask q p
     its_seat i l k =
         let w = all.seats i l k in
         let e = w.2 in

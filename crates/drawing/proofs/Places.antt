@@ -1,6 +1,6 @@
 -- The counts of a calendar number its open places. Assumes nothing.
 use Rattle.std.proofs.Common.{◌≡◌, ℕ, zero, suc, ◌+◌, ◌-◌, ◌*◌, ◌/◌, ◌%◌, ◌^◌, ◌<◌, ◌≤◌, Bool, true, false, List, length, get_or, replicate, sym, refl, ap, ◌∙◌, subst, inl, inr, mod-eq_of_lt, add-one, arith}
-use lib.Count.{ones, ones_step, ones_cat, ones-le}
+use lib.Count.{ones, ones_step, ones_cat}
 use lib.ListN.{length-replicate}
 use Rattle.std.proofs.lemmas.Nat.{mod_below, pow_pos, shr_split}
 use Rattle.std.proofs.lemmas.Bool.{cases_lt, cases_eq, eqb-true, eq-eqb}
@@ -30,10 +30,6 @@ counted mask after false h = absurd (h.0 (length-replicate {A = ℕ} 1025 0))
 
 opens_next : (mask : ℕ → ℕ) (s : ℕ) → opens mask (suc s) ≡ opens mask s + ones (mask s)
 opens_next mask s = subst (λ n. opens mask n ≡ opens mask s + ones (mask s)) (add-one s) (opens_more mask s)
-
-pub opens_few : (mask : ℕ → ℕ) → ((s : ℕ) → mask s < 256) → (s : ℕ) → opens mask s ≤ s * 8
-opens_few mask small zero = let e = opens_none mask in omega arith
-opens_few mask small (suc s) = let i = opens_few mask small s in let o = ones-le 8 (mask s) (small s) in let e = opens_next mask s in omega arith
 
 -- a set bit is one more
 ones_above : (m b : ℕ) → m / 2 ^ b % 2 ≡ 1 → ones (m % 2 ^ b) < ones m

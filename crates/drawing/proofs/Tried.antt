@@ -1,5 +1,5 @@
 -- One trial of a row: the places after it are dealt to one row more, or there is no placing of them all. Assumes nothing.
-use Rattle.std.proofs.Common.{◌≡◌, ℕ, ◌<◌, ◌≤◌, Bool, true, List, length, get_or, refl, inl, inr, arith}
+use Rattle.std.proofs.Common.{◌≡◌, ℕ, ◌<◌, ◌≤◌, Bool, true, List, length, Option, refl, inl, inr, arith}
 use Rattle.jobs.specs.declared.terms.Row.{Row}
 use Rattle.dealing.specs.Boards.{Placing}
 use Rattle.dealing.specs.Choice.{adding}
@@ -32,7 +32,7 @@ fresh kept x h = let l = (below_parts kept x x h).0 in omega arith
 grows : (kept : ℕ → Bool) (x j : ℕ) → below kept x j ≡ true → adding kept x j ≡ true
 grows kept x j h = adding_from kept x j (inl (below_parts kept x j h))
 
-module _ (rows : List Row) (counts at : List ℕ) (x : ℕ) (drawable : Drawable rows) (numbered : Numbered counts) (within : x < length rows) (early : (row rows x).ready ≤ 1024)
+module _ (rows : List Row) (counts : List ℕ) (at : List (Option ℕ)) (x : ℕ) (drawable : Drawable rows) (numbered : Numbered counts) (within : x < length rows) (early : (row rows x).ready ≤ 1024)
     (kept : ℕ → Bool) (filled : DealtToAll rows counts (below kept x) at) where
   ready : (row rows x).ready ≤ (board_by counts).slot (start rows counts x)
   ready = in_slot counts numbered (row rows x).ready (start rows counts x) early (omega arith)
@@ -40,8 +40,8 @@ module _ (rows : List Row) (counts at : List ℕ) (x : ℕ) (drawable : Drawable
   before : (p : ℕ) → p < start rows counts x → (board_by counts).slot p < (row rows x).ready
   before p h = below_slot counts numbered (row rows x).ready p early h
 
-  pub tried : (new : List ℕ) (e : ℕ) → SucceedsIn rows counts at x e → ((q : ℕ) → q < e → get_or new q 0 ≡ settled_in rows counts at x q) →
-      get_or new e 0 ≡ carried_in rows counts at x e → ((q : ℕ) → e < q → get_or new q 0 ≡ get_or at q 0) → DealtToAll rows counts (adding kept x) new
+  pub tried : (new : List (Option ℕ)) (e : ℕ) → SucceedsIn rows counts at x e → ((q : ℕ) → q < e → seat_of new q ≡ settled_in rows counts at x q) →
+      seat_of new e ≡ carried_in rows counts at x e → ((q : ℕ) → e < q → seat_of new q ≡ seat_of at q) → DealtToAll rows counts (adding kept x) new
   tried new e h front here back =
       let w = succeeds (board_by counts) (table_of rows) (order rows) (ordered rows drawable.apart) (deadlines rows) (λ p l. refl) (below kept x) (adding kept x) x within
       (adds kept x) (fresh kept x) (grows kept x) (adding_parts kept x) (seat_of at) filled.dealt
@@ -54,5 +54,5 @@ module _ (rows : List Row) (counts at : List ℕ) (x : ℕ) (drawable : Drawable
       (adds kept x) (fresh kept x) (grows kept x) (adding_parts kept x) (seat_of at) filled.dealt
       (start rows counts x) ready before e h
 
-pub placing : (rows : List Row) (counts at : List ℕ) (K : ℕ → Bool) → DealtToAll rows counts K at → Placing (board_by counts) (table_of rows) K
+pub placing : (rows : List Row) (counts : List ℕ) (at : List (Option ℕ)) (K : ℕ → Bool) → DealtToAll rows counts K at → Placing (board_by counts) (table_of rows) K
 placing rows counts at K f = placed_by (board_by counts) (table_of rows) (order rows) (deadlines rows) K (seat_of at) f.dealt f.seats

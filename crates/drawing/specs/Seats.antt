@@ -5,7 +5,7 @@
 --   open_at mask w                   the w-th link of all, eight to a slot, is open
 --   open_before mask w               how many open links come before it
 --   row_at mask k places w           the row that sits at it, or k
-use Rattle.std.specs.Prelude.{◌≡◌, ℕ, ◌+◌, ◌/◌, ◌%◌, ◌^◌, ◌<◌, Bool, cond, List, length, None, Option, MatchOption, ◌==◌, count_ones, slice_index, slice_index_or}
+use Rattle.std.specs.Prelude.{◌≡◌, ℕ, ◌+◌, ◌/◌, ◌%◌, ◌^◌, ◌<◌, Bool, cond, List, length, None, Option, MatchOption, ◌==◌, count_ones, slice_index_or}
 use Rattle.calendars.specs.Places.{opens}
 use Rattle.jobs.specs.declared.terms.Seat.{Seat}
 use Rattle.placing.specs.Placing.{Open}
@@ -17,11 +17,11 @@ pub record SeatAt (mask : ℕ → ℕ) (p : ℕ) (seat : Seat) : Type 0 where
   pub opened : Open mask seat
   pub place : p ≡ opens mask seat.slot + count_ones (mask seat.slot % 2 ^ seat.link)
 
-abbrev pub Once : (places : List ℕ) (n k : ℕ) → Type 0
-Once places n k = (p q : ℕ) → p < n → q < n → slice_index places p < k → slice_index places p ≡ slice_index places q → p ≡ q
+abbrev pub Once : (places : List (Option ℕ)) (n k : ℕ) → Type 0
+Once places n k = (p q : ℕ) → p < n → q < n → seat_of places p < k → seat_of places p ≡ seat_of places q → p ≡ q
 
-pub record SeatsRead (mask : ℕ → ℕ) (places : List ℕ) (seats : List (Option Seat)) (p : ℕ) : Type 0 where
-  pub made : (q : ℕ) → q < p → slice_index places q < length seats → MatchOption (slice_index_or seats (slice_index places q) None) ⊥ (SeatAt mask q)
+pub record SeatsRead (mask : ℕ → ℕ) (places : List (Option ℕ)) (seats : List (Option Seat)) (p : ℕ) : Type 0 where
+  pub made : (q : ℕ) → q < p → seat_of places q < length seats → MatchOption (slice_index_or seats (seat_of places q) None) ⊥ (SeatAt mask q)
   pub others : (i : ℕ) → (In (seat_of places) p i → ⊥) → slice_index_or seats i None ≡ None
 
 abbrev pub open_at : (ℕ → ℕ) → ℕ → Bool
@@ -30,5 +30,5 @@ open_at mask w = mask (w / 8) / 2 ^ (w % 8) % 2 == 1
 abbrev pub open_before : (ℕ → ℕ) → ℕ → ℕ
 open_before mask w = opens mask (w / 8) + count_ones (mask (w / 8) % 2 ^ (w % 8))
 
-abbrev pub row_at : (ℕ → ℕ) → ℕ → List ℕ → ℕ → ℕ
-row_at mask k places w = cond (open_at mask w) (slice_index places (open_before mask w)) k
+abbrev pub row_at : (ℕ → ℕ) → ℕ → List (Option ℕ) → ℕ → ℕ
+row_at mask k places w = cond (open_at mask w) (seat_of places (open_before mask w)) k

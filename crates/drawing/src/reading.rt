@@ -1,20 +1,13 @@
 // The seat of each row, read off the places.
-ghost use Rattle.std.specs.Prelude.{◌≡◌, ℕ, ◌+◌, ◌<◌, ◌≤◌, length, None, count_ones, slice_index, slice_index_or};
+ghost use Rattle.std.specs.Prelude.{◌≡◌, ℕ, ◌+◌, ◌<◌, ◌≤◌, length, count_ones, slice_index};
 ghost use Rattle.calendars.specs.Places.{opens};
 ghost use Rattle.drawing.specs.Seats.{Once, SeatsRead};
+ghost use Rattle.drawing.specs.Trial.{OfRows};
 
+use crate::trials::Places;
 use calendars::calendar::Calendar;
 use calendars::links::kth_open_link;
 use jobs::terms::Seat;
-
-// No row has a seat.
-fn unseat(seats: &mut [Option<Seat>])
-    ensures leaves { (i : ℕ) → i < length seats.new → slice_index_or seats.new i None ≡ None }
-{
-    for seat in seats.iter_mut() {
-        *seat = None;
-    }
-}
 
 // Seats the rows at the open places of one slot, those from `first` up to, and without, `past`.
 fn read_slot<C: Calendar>(
@@ -22,23 +15,23 @@ fn read_slot<C: Calendar>(
     slot: u16,
     first: u16,
     past: u16,
-    places: &[u16],
+    places: &Places,
     seats: &mut [Option<Seat>],
 )
     requires slots { slot < 1024 }
     requires begins { first ≡ opens (C.Calendar.mask calendar.now) slot }
     requires ends { past ≡ first + count_ones (C.Calendar.mask calendar.now slot) }
-    requires room { past ≤ length places.now }
+    requires room { past ≤ 8192 }
+    requires few { length seats.old ≤ 256 }
+    requires seated { OfRows places.now (length seats.old) }
     requires once { Once places.now past (length seats.old) }
     requires read { SeatsRead (C.Calendar.mask calendar.now) places.now seats.old first }
     ensures leaves { SeatsRead (C.Calendar.mask calendar.now) places.now seats.new past }
 {
     for p in first..past {
-        let row = places[p as usize] as usize;
-        if row < seats.len() {
-            match kth_open_link(calendar, slot, (p - first) as u8) {
-                Some(link) => seats[row] = Some(Seat { slot, link }),
-                None => {}
+        if let Some(row) = places[usize::from(p)] {
+            if let Some(link) = kth_open_link(calendar, slot, (p - first) as u8) {
+                seats[usize::from(row)] = Some(Seat { slot, link });
             }
         }
     }
@@ -47,25 +40,19 @@ fn read_slot<C: Calendar>(
 // Seats each row that sits at an open place; the others have no seat.
 pub(crate) fn read_seats<C: Calendar>(
     calendar: &C,
-    counts: &[u16],
-    places: &[u16],
+    counts: &[u16; 1025],
+    places: &Places,
     seats: &mut [Option<Seat>],
 )
-    requires long { length counts.now ≡ 1025 }
     requires counted { (s : ℕ) → s ≤ 1024 → slice_index counts.now s ≡ opens (C.Calendar.mask calendar.now) s }
-    requires room { slice_index counts.now 1024 ≤ length places.now }
+    requires room { slice_index counts.now 1024 ≤ 8192 }
+    requires few { length seats.old ≤ 256 }
+    requires seated { OfRows places.now (length seats.old) }
     requires once { Once places.now (slice_index counts.now 1024) (length seats.old) }
     ensures leaves { SeatsRead (C.Calendar.mask calendar.now) places.now seats.new (slice_index counts.now 1024) }
 {
-    unseat(seats);
-    for s in 0..1024u16 {
-        read_slot(
-            calendar,
-            s,
-            counts[s as usize],
-            counts[s as usize + 1],
-            places,
-            seats,
-        );
+    seats.fill(None);
+    for s in 0..1024 {
+        read_slot(calendar, s as u16, counts[s], counts[s + 1], places, seats);
     }
 }

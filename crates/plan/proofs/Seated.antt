@@ -1,5 +1,5 @@
 -- Rows that have been given their seats, one by one. Assumes nothing.
-use Rattle.std.proofs.Common.{◌≡◌, ℕ, ◌<◌, ◌≤◌, Bool, true, false, List, length, get_or, None, Option, sym, ap, ◌∙◌, subst, arith}
+use Rattle.std.proofs.Common.{◌≡◌, ℕ, ◌<◌, ◌≤◌, Bool, true, false, List, length, get_or, None, Option, sym, refl, ap, ◌∙◌, subst, arith}
 use Rattle.std.proofs.lemmas.List.{same_lists, get_or_default}
 use Rattle.jobs.specs.declared.terms.Row.{Row}
 use Rattle.jobs.specs.declared.terms.Seat.{Seat}
@@ -32,3 +32,9 @@ pub draws : (mask : ℕ → ℕ) (rows lent : List Row) (before after : List (Op
     Drawn earliest_then_lower mask (seated rows after)
 draws mask rows lent before after true e drawable long d = subst (λ rs. Drawn earliest_then_lower mask (seated rs after)) e d.2
 draws mask rows lent before after false e drawable long d = absurd (d.0 (subst Drawable (sym e) drawable, long ∙ ap length (sym e)))
+
+-- and not refused
+pub is_drawn : (mask : ℕ → ℕ) (rows lent : List Row) (before after : List (Option Seat)) (r : Bool) → lent ≡ rows → Drawable rows → length before ≡ length rows → Draws mask lent before after r →
+    r ≡ true
+is_drawn mask rows lent before after true e drawable long d = refl
+is_drawn mask rows lent before after false e drawable long d = absurd (d.0 (subst Drawable (sym e) drawable, long ∙ ap length (sym e)))

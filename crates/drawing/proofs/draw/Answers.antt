@@ -1,30 +1,47 @@
-use Rattle.std.proofs.Common.{◌≡◌, length, arith}
+use Rattle.std.proofs.Common.{◌≡◌, ℕ, length, get_or, replicate, is_ok, Option, None, sym, subst, inl, inr, arith}
+use lib.ListN.{length-replicate}
+use Rattle.std.proofs.lemmas.Bool.{cases_lt}
+use Rattle.std.proofs.lemmas.List.{get_or-replicate, get_or_past}
 use Rattle.drawing.specs.Draw.{Drawable}
+use Rattle.drawing.specs.Trial.{OfRows}
 use Rattle.drawing.proofs.Places.{counted, numbered_from}
 use Rattle.drawing.proofs.Links.{few, drawn}
 use Rattle.drawing.proofs.draw.Goals as goal
 
-pub deal-requires : goal.deal-requires
-deal-requires g c =
+pub invariant_of-trials : goal.invariant_of-trials
+invariant_of-trials g c =
     let mask = g.C.Calendar.mask c.args.calendar.now in
     let counts = c.place_counts.new.counts in
-    let w = counted mask counts c.place_counts.result c.place_counts.ensures.answers in
+    let w = counted mask counts (is_ok c.place_counts.result) c.place_counts.ensures.answers in
     record {
       drawable = c.drawable.ensures.answers.0 c.if-not-drawable.false;
       numbered = numbered_from mask counts w.0 w.1;
-      room = few mask (g.C.Calendar.laws.mask_bound c.args.calendar.now) counts w.0 w.1;
+      room = few mask (g.met.C.Calendar.mask_bound c.args.calendar.now) counts w.0 w.1;
     }
+
+-- a table of nothing has nothing at any place
+none_there : (n p : ℕ) → get_or {A = Option ℕ} (replicate n None) p None ≡ None
+none_there n p = elim (cases_lt p n) [
+  | inl within ↦ get_or-replicate n p None None within
+  | inr past ↦ get_or_past (replicate n None) p None (omega (arith, length-replicate {A = Option ℕ} n None))
+]
+
+pub deal-requires : goal.deal-requires
+deal-requires g c = record { empty = none_there 8192 }
 
 pub read_seats-requires : goal.read_seats-requires
 read_seats-requires g c =
     let mask = g.C.Calendar.mask c.args.calendar.now in
     let counts = c.place_counts.new.counts in
-    let w = counted mask counts c.place_counts.result c.place_counts.ensures.answers in
-    let f = few mask (g.C.Calendar.laws.mask_bound c.args.calendar.now) counts w.0 w.1 in
+    let w = counted mask counts (is_ok c.place_counts.result) c.place_counts.ensures.answers in
+    let drawable : Drawable c.args.rows.now = c.drawable.ensures.answers.0 c.if-not-drawable.false in
+    let rows = drawable.few in
+    let same = c.if-seats-rows.false in
     record {
-      long = w.0;
       counted = w.1;
-      room = omega arith;
+      room = few mask (g.met.C.Calendar.mask_bound c.args.calendar.now) counts w.0 w.1;
+      few = omega arith;
+      seated = subst (OfRows c.deal.new.places) (sym same) c.deal.ensures.seated;
       once = λ p q l m h. c.deal.ensures.leaves.2.dealt.once p q l m (omega arith);
     }
 
@@ -32,7 +49,7 @@ pub returns : goal.returns
 returns g c =
     let mask = g.C.Calendar.mask c.args.calendar.now in
     let counts = c.place_counts.new.counts in
-    let w = counted mask counts c.place_counts.result c.place_counts.ensures.answers in
+    let w = counted mask counts (is_ok c.place_counts.result) c.place_counts.ensures.answers in
     let chosen = c.deal.ensures.leaves in
     let drawable : Drawable c.args.rows.now = c.drawable.ensures.answers.0 c.if-not-drawable.false in
     let same = c.if-seats-rows.false in
@@ -41,7 +58,7 @@ returns g c =
       answers = (
         (drawable, same),
         after,
-        drawn mask (g.C.Calendar.laws.mask_bound c.args.calendar.now) counts w.0 w.1 c.args.rows.now c.deal.new.places c.read_seats.new.seats
+        drawn mask (g.met.C.Calendar.mask_bound c.args.calendar.now) counts w.0 w.1 c.args.rows.now c.deal.new.places c.read_seats.new.seats
             drawable after chosen.0 chosen.1 chosen.2 c.read_seats.ensures.leaves,
       );
     }

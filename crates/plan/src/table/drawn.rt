@@ -33,7 +33,7 @@ impl Table {
         ensures drawn { Drawn earliest_then_lower (C.Calendar.mask calendar.now) (rows_of self.new) }
         ensures count { self.new.count ≡ self.old.count }
     {
-        draw(calendar, self.rows(), seats);
+        draw(calendar, self.rows(), seats).unwrap();
         self.seat_all(seats);
     }
 

@@ -1,21 +1,17 @@
-use Rattle.std.proofs.Common.{◌+◌, arith}
-use Rattle.calendars.proofs.Bits.{ones_below_none, ones_below_more, ones_below_le}
+use Rattle.std.proofs.Common.{sym, ap, ◌∙◌, eqb, arith, rules, tests}
+use Rattle.std.specs.List.{slice_get, filter, range_with_len}
+use Rattle.std.proofs.lemmas.Iterator.{YieldsList-from_range}
+use Rattle.std.proofs.lemmas.Iterator.Consumers.{nth_from_yields_List, YieldsList-from_filter}
+use Rattle.std.proofs.lemmas.Iterator.Adapters.{option_map_id}
+use Rattle.calendars.specs.Masks.{link_open}
+use Rattle.calendars.proofs.Bits.{kth_found}
 use Rattle.calendars.proofs.links.kth_bit.Goals as goal
-use Rattle.calendars.proofs.links.kth_bit.Goals.{then-mask-bit-eq1+else-rest-eq0, else-mask-bit-eq1}
 
-pub loop-bit-init : goal.loop-bit-init
-loop-bit-init c = omega (arith, ones_below_none c.args.mask)
-
-pub returns-then-rest-eq0 : goal.returns-then-rest-eq0
-returns-then-rest-eq0 c =
-    let more = ones_below_more c.args.mask c.loop-bit.bit in
-    let le = ones_below_le c.args.mask (c.loop-bit.bit + 1) in
-    record { cases = (omega (arith, more, le), (omega arith, omega arith, omega arith)) }
-
-pub loop-bit-preserved : goal.loop-bit-preserved
-loop-bit-preserved c =
-    let more = ones_below_more c.args.mask c.loop-bit.bit in
-    elim c.if-mask-bit-eq1.branch [
-      | then-mask-bit-eq1+else-rest-eq0 w ↦ omega (arith, more, w.rest-is)
-      | else-mask-bit-eq1 w ↦ omega (arith, more, w.rest-is)
-    ]
+pub returns : goal.returns
+returns c =
+    let found = nth_from_yields_List c.nth.result c.nth.new.self c.from.result c.nth.ensures.ran (YieldsList-from_filter _ (λ b. eqb (link_open c.args.mask b) 1) (YieldsList-from_range 0 8 8 c.filter.ensures.source (omega arith)) c.filter.ensures.closure (λ x b q k. search (rules, tests))) in
+    record {
+      cases = kth_found c.args.mask c.args.k c.nth.result (omega arith)
+          (sym (option_map_id c.nth.result) ∙ found
+          ∙ ap (slice_get (filter (λ b. eqb (link_open c.args.mask b) 1) (range_with_len 0 8))) c.from.ensures);
+    }

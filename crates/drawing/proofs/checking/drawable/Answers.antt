@@ -1,12 +1,14 @@
-use Rattle.std.proofs.Common.{refl}
-use Rattle.std.proofs.lemmas.Bool.{both_ways}
-use Rattle.drawing.proofs.Checked.{checked_more, checked_all}
+use Rattle.std.proofs.Common.{◌≤◌, length, arith, rules, tests}
+use Rattle.std.proofs.lemmas.Iterator.{cases_from_all, YieldsList-from_range}
+use Rattle.placing.specs.Placing.{row}
+use Rattle.drawing.proofs.Checked.{Taken, checked}
 use Rattle.drawing.proofs.checking.drawable.Goals as goal
 
-pub loop-i-preserved : goal.loop-i-preserved
-loop-i-preserved c =
-    checked_more c.args.rows.now c.loop-i.i c.loop-i.invariant c.if-rows-i-gt1024.false
-    (λ w. both_ways c.number_taken.result c.if-number_taken.false (c.number_taken.ensures.answers.1 w))
-
-pub returns : goal.returns
-returns c = record { answers = (λ _. checked_all c.args.rows.now c.loop-i.i c.loop-i-test.false c.if-rows-gt256.false c.loop-i.invariant, λ _. refl) }
+pub returns-then-rows-le256 : goal.returns-then-rows-le256
+returns-then-rows-le256 c =
+    let rows = c.args.rows.now in
+    record {
+      answers = checked rows c.all.result c.if-rows-le256.true
+          (cases_from_all _ _ _ (λ i. ((row rows i).deadline ≤ 1024) × (Taken rows i → ⊥)) (λ i. (row rows i).deadline ≤ 1024 → Taken rows i) c.all.ensures.ran
+          (YieldsList-from_range 0 (length rows) (length rows) (cc) (omega arith)) (λ x q k. search (rules, tests)) (λ x q k. search (rules, tests)));
+    }
