@@ -28,6 +28,7 @@ fn read_slot<C: Calendar>(
     requires read { SeatsRead (C.Calendar.mask calendar.now) places.now seats.old first }
     ensures leaves { SeatsRead (C.Calendar.mask calendar.now) places.now seats.new past }
 {
+    // by place, since its number tells the link
     for p in first..past {
         if let Some(row) = places[usize::from(p)] {
             if let Some(link) = kth_open_link(calendar, slot, (p - first) as u8) {
@@ -52,6 +53,7 @@ pub(crate) fn read_seats<C: Calendar>(
     ensures leaves { SeatsRead (C.Calendar.mask calendar.now) places.now seats.new (slice_index counts.now 1024) }
 {
     seats.fill(None);
+    // by slot, since its number is part of a seat
     for s in 0..1024 {
         read_slot(calendar, s as u16, counts[s], counts[s + 1], places, seats);
     }

@@ -79,6 +79,7 @@ impl Trials<'_> {
         ensures same { (q : ℕ) → e < q → seat_of places.new q ≡ seat_of places.old q }
     {
         let mut carried = x;
+        // by place, since the places are written on the way
         for p in self.first_place(self.rows[x].ready)..e {
             if let Some(sitting) = places[p] {
                 let sitting = usize::from(sitting);
@@ -118,6 +119,7 @@ impl Trials<'_> {
         ensures seated { OfRows places.new (length self.now.rows.now) }
         ensures leaves { Chosen self.now.rows.now self.now.counts.now places.new }
     {
+        // by rank, since a trial is that of the row at a rank
         for x in 0..self.rows.len() {
             self.trial(places, x);
         }

@@ -19,7 +19,7 @@ impl Table {
         ensures leaves { rows_of self.new ≡ seated (rows_of self.old) seats.now }
         ensures count { self.new.count ≡ self.old.count }
     {
-        // By index, as in a replay: what is written through a chain over `iter_mut` is lost to the proof.
+        // By rank: a row's seat is changed by the table's own method, which promises that nothing else changes.
         for rank in 0..self.count {
             self.seat_row(rank, seats[rank]);
         }
