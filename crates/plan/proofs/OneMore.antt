@@ -85,3 +85,10 @@ module _ (mask : ℕ → ℕ) (before after : List Row) (named : ℕ) (kept : Ke
 
   pub reweigh_one : (rest : List Row) (p q : ℕ) → OneMore rest p before → OneMore rest q after → SameJob (row before p) (row after q) → Apart before → (row before p).number ≡ named → AtMostOne before after named
   reweigh_one rest p q o o' same apart is = subst (AtMostOne before after) is (reranking_changes_one mask before rest after p q o o' same apart kept kept').0
+
+-- other seats leave all in the table
+pub stay_seated : (before mid after : List Row) (named : ℕ) → OthersStay before mid named → SameTable mid after → OthersStay before after named
+stay_seated before mid after named stay same i l ne =
+    let v = stay i l ne in
+    let size = same.size in
+    (v.0, (let h = v.1 in omega arith), sym (same.jobs v.0 v.1).0 ∙ v.2)

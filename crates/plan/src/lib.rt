@@ -13,8 +13,5 @@ mod refusing;
 mod shift;
 mod table;
 
-pub use changes::{offer, reweigh, withdraw};
-pub use filling::fill;
-pub use loading::load;
 pub use planner::Plan;
 pub use refusal::LoadRefusal;

@@ -4,7 +4,6 @@ ghost use Rattle.calls.specs.Moments.{at};
 ghost use Rattle.plan.specs.Plans.{rows_in};
 ghost use Rattle.plan.specs.Loading.{Loaded, LoadRefused};
 
-use crate::filling::fill_from;
 use crate::planner::Plan;
 use crate::refusal::LoadRefusal;
 use calendars::carried_on::CarriedOn;
@@ -12,31 +11,33 @@ use calendars::listed::Listed;
 use sheets::reader::read;
 use weights::kind::OrderedWeight;
 
-// Opens the lent plan anew with the jobs of a sheet, all or none, under the listed calendar of the sheet's masks, ending or carried on,
-// and hands out these masks. Refused for a store under 256 entries (14), and then exactly as the reader refuses the sheet; plan and
-// store are then as before. A loaded plan is the plan of the sheet's jobs, so that a run of calls under this calendar may begin with it.
-pub fn load<'a, W: OrderedWeight>(
-    plan: &mut Plan,
-    store: &mut [W],
-    sheet: &'a [u8],
-    carried_on: bool,
-) -> Result<&'a [u8], LoadRefusal>
-    ensures cases { MatchResult result (λ masks. Loaded W.OrderedWeight.CODE W.OrderedWeight.WIDTH W.OrderedWeight.encoding W.OrderedWeight.no_lighter carried_on sheet.now masks.now (at (rows_in plan.old) store.old) (at (rows_in plan.new) store.new)) (LoadRefused W.OrderedWeight.CODE W.OrderedWeight.WIDTH W.OrderedWeight.encoding sheet.now store.old) }
-    ensures refused { OnErr result ((plan.new ≡ plan.old) × (store.new ≡ store.old)) }
-{
-    if store.len() < 256 {
-        return Err(LoadRefusal::StoreTooShort);
+impl Plan {
+    // Opens the plan anew with the jobs of a sheet, all or none, under the listed calendar of the sheet's masks, ending or carried on,
+    // and hands out these masks. Refused for a store under 256 entries (14), and then exactly as the reader refuses the sheet; plan and
+    // store are then as before. A loaded plan is the plan of the sheet's jobs, so that a run of calls under this calendar may begin with it.
+    pub fn load<'a, W: OrderedWeight>(
+        &mut self,
+        store: &mut [W],
+        sheet: &'a [u8],
+        carried_on: bool,
+    ) -> Result<&'a [u8], LoadRefusal>
+        ensures cases { MatchResult result (λ masks. Loaded W.OrderedWeight.CODE W.OrderedWeight.WIDTH W.OrderedWeight.encoding W.OrderedWeight.no_lighter carried_on sheet.now masks.now (at (rows_in self.old) store.old) (at (rows_in self.new) store.new)) (LoadRefused W.OrderedWeight.CODE W.OrderedWeight.WIDTH W.OrderedWeight.encoding sheet.now store.old) }
+        ensures refused { OnErr result ((self.new ≡ self.old) × (store.new ≡ store.old)) }
+    {
+        if store.len() < 256 {
+            return Err(LoadRefusal::StoreTooShort);
+        }
+        let accepted = read::<W>(sheet)?;
+        let masks = accepted.masks();
+        // A sheet that was read has at most 1,024 masks, so that its calendar is always made.
+        let calendar = Listed::new(masks).unwrap();
+        // The reader has seen that a table takes the jobs.
+        let filled = if carried_on {
+            self.fill_from(&CarriedOn::new(calendar), store, &accepted)
+        } else {
+            self.fill_from(&calendar, store, &accepted)
+        };
+        filled.unwrap();
+        Ok(masks)
     }
-    let accepted = read::<W>(sheet)?;
-    let masks = accepted.masks();
-    // A sheet that was read has at most 1,024 masks, so that its calendar is always made.
-    let calendar = Listed::new(masks).unwrap();
-    // The reader has seen that a table takes the jobs.
-    let filled = if carried_on {
-        fill_from(plan, &CarriedOn::new(calendar), store, &accepted)
-    } else {
-        fill_from(plan, &calendar, store, &accepted)
-    };
-    filled.unwrap();
-    Ok(masks)
 }

@@ -9,7 +9,7 @@ ghost use Rattle.plan.specs.Plans.{rows_in};
 
 use calendars::calendar::Calendar;
 use calls::terms::{Answer, Call};
-use plan::{Plan, offer, reweigh, withdraw};
+use plan::Plan;
 use weights::kind::{OrderedWeight, TotalledWeight};
 
 mod equal;
@@ -27,9 +27,9 @@ pub fn perform<W: OrderedWeight, C: Calendar>(
     ensures refused { OnErr result (plan.new ≡ plan.old) }
 {
     match call {
-        Call::Offer(job) => offer(plan, calendar, store, job),
-        Call::Withdraw(number) => withdraw(plan, calendar, store, number),
-        Call::Reweigh(number, weight) => reweigh(plan, calendar, store, number, weight),
+        Call::Offer(job) => plan.offer(calendar, store, job),
+        Call::Withdraw(number) => plan.withdraw(calendar, store, number),
+        Call::Reweigh(number, weight) => plan.reweigh(calendar, store, number, weight),
     }
 }
 
