@@ -1,6 +1,10 @@
 -- The records of some jobs, one after the other: how long they are, what the first says, one more at the end.
-use Rattle.std.proofs.Common.{◌≡◌, ℕ, zero, suc, ◌+◌, ◌-◌, ◌*◌, ◌/◌, ◌%◌, ◌<◌, ◌≤◌, true, false, eqb, List, [], ◌∷◌, length, get_or, take, drop, Some, None, Option, sym, refl, ap, ◌∙◌, subst, suc-mul, zero-mul, arith, MatchOption}
-use Rattle.std.proofs.lemmas.List.{drop_at, drop-drop, take_at, length-append}
+use Rattle.std.proofs.Common.{◌≡◌, ℕ, zero, suc, ◌+◌, ◌-◌, ◌*◌, ◌/◌, ◌%◌, ◌<◌, ◌≤◌, true, false, eqb, List, [], ◌∷◌, length, get_or, take, drop, Some, None, Option, Ok, Err, Result, sym, refl, ap, ◌∙◌, subst, suc-mul, zero-mul, arith, inl, inr, ◌⊎◌, MatchOption, MatchResult}
+use Rattle.std.specs.List.{slice_range}
+use Rattle.std.specs.Result.{result_ok}
+use Rattle.std.proofs.lemmas.Slice.{between_is, between_from_start, between_to_end}
+use Rattle.weights.specs.declared.fault.WeightFault.{WeightFault}
+use Rattle.std.proofs.lemmas.List.{take_rest, drop_at, drop-drop, take_at, length-append}
 use Rattle.std.proofs.lemmas.Bool.{eq-eqb, ne_eqb}
 use Rattle.jobs.specs.declared.terms.Job.{Job}
 use Rattle.jobs.specs.Admission.{taken}
@@ -44,14 +48,26 @@ module _ {W : Type 0} (encoding : W → List ℕ) (width : ℕ) (sized : (w : W)
       let long = record_long job in
       absurd (omega (arith, ap length e, length-append (record_bytes 3 (job_value encoding job)) (job_records encoding more)))
 
--- what the code read of the k-th record, with a width that a call answered
-pub job_at_read : {W : Type 0} (encoding : W → List ℕ) (records : List ℕ) (job : Job W) (k n width at : ℕ) → n ≡ width → at ≡ k * (9 + n) → at ≤ length records
-    → 9 + n ≤ length records - at → job_value encoding job ≡ take (at + (9 + n) - (at + 3)) (drop (at + 3) records) → JobAt encoding (9 + width) records k job
-job_at_read encoding records job k n width at w e h fits v =
-    let long : at + (9 + n) - (at + 3) ≡ 9 + n - 3 = omega arith in
-    subst (λ m. JobAt encoding (9 + m) records k job) w
-    (subst (λ a. (a + (9 + n) ≤ length records) × (job_value encoding job ≡ take (9 + n - 3) (drop (a + 3) records))) e
-    (omega arith, v ∙ ap (λ m. take m (drop (at + 3) records)) long))
+-- the value of the record at byte `at`, which is the front of what is left there
+pub value_at : (records rest one : List ℕ) (at size : ℕ) → 3 ≤ size → rest ≡ slice_range records at (length records) → one ≡ slice_range rest 0 size
+    → take (length one - 3) (drop 3 one) ≡ take (size - 3) (drop (at + 3) records)
+value_at records rest one at size h p q =
+    let left : rest ≡ drop at records = p ∙ between_to_end records at (length records) (omega arith) in
+    let front : one ≡ take size (drop at records) = q ∙ between_from_start rest size ∙ ap (take size) left in
+    take_rest one 3 ∙ ap (drop 3) front ∙ sym (between_is (drop at records) 3 size) ∙ ap (take (size - 3)) (drop-drop 3 at records)
+
+-- what was read of the value of the k-th record is the job there; else no job is there
+pub job_at_read : {W : Type 0} (encoding : W → List ℕ) (records value : List ℕ) (k width n : ℕ) (read : Result (Job W) WeightFault) → n ≡ width → k * (9 + n) + (9 + n) ≤ length records
+    → value ≡ take (9 + n - 3) (drop (k * (9 + n) + 3) records)
+    → MatchResult read (λ job. job_value encoding job ≡ value) (λ _. (length value < 6) ⊎ ((w : W) → encoding w ≡ drop 6 value → ⊥))
+    → MatchOption (result_ok read) ((job : Job W) → JobAt encoding (9 + width) records k job → ⊥) (λ job. JobAt encoding (9 + width) records k job)
+job_at_read encoding records value k width n (Ok job) w fits v r = subst (λ m. JobAt encoding (9 + m) records k job) w (fits, r ∙ v)
+job_at_read encoding records value k width n (Err fault) w fits v r = λ job at.
+    let same : job_value encoding job ≡ value = at.1 ∙ (ap (λ m. take (9 + m - 3) (drop (k * (9 + m) + 3) records)) (sym w) ∙ sym v) in
+    elim r [
+      | inl short ↦ omega (arith, ap length same)
+      | inr none ↦ none job.weight (ap (drop 6) same)
+    ]
 
 -- a number, and so a job, is known by its bytes
 two_same : (m n : ℕ) → m / 256 ≡ n / 256 → m % 256 ≡ n % 256 → m ≡ n

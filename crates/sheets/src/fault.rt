@@ -1,8 +1,10 @@
 // Why a sheet is refused: by the reader, or by the table that takes its jobs.
 ghost use Rattle.std.specs.Prelude.{◌≡◌};
+ghost use Rattle.sheets.specs.declared.fault.SheetFault.TheVariants.{NoWeight};
 ghost use Rattle.sheets.specs.Faults.{sheet_fault_number, load_fault_number, load_fault_byte, load_fault_job};
 
 use jobs::terms::TableFault;
+use weights::fault::WeightFault;
 
 // The reader's own causes.
 #[derive(Clone, Copy, Debug, PartialEq, Eq)]
@@ -43,6 +45,17 @@ impl SheetFault {
     }
 }
 
+// Bytes that are no weight.
+impl From<WeightFault> for SheetFault {
+    ghost from_gives = { λ _ fault. fault ≡ NoWeight };
+
+    fn from(fault: WeightFault) -> SheetFault {
+        match fault {
+            WeightFault::NoWeight => SheetFault::NoWeight,
+        }
+    }
+}
+
 impl LoadFault {
     // The refusal's number.
     pub fn number(&self) -> u8
@@ -59,8 +72,7 @@ impl LoadFault {
         ensures { result ≡ load_fault_byte self.now }
     {
         match self {
-            LoadFault::Sheet(_, byte) => *byte,
-            LoadFault::Table(_, byte) => *byte,
+            LoadFault::Sheet(_, byte) | LoadFault::Table(_, byte) => *byte,
         }
     }
 

@@ -10,6 +10,7 @@ use crate::job_record::{job_of, number_taken};
 use crate::kind::code_of;
 use crate::record::record_value;
 use crate::sheet::Sheet;
+use crate::tag::Tag;
 use jobs::admission::admission;
 use std::marker::PhantomData;
 use weights::kind::OrderedWeight;
@@ -26,13 +27,10 @@ fn check_job<W: OrderedWeight>(
     ensures { (before : List (Job W)) → take (at - first) (drop first sheet.now) ≡ job_records W.OrderedWeight.encoding before → length before ≡ count → JobAnswer W.OrderedWeight.code W.OrderedWeight.width W.OrderedWeight.encoding before sheet.now at result }
 {
     let size = 6 + W::byte_width();
-    let value = match record_value(&sheet[at..], 3, size, size) {
-        Ok(value) => value,
-        Err(fault) => return Err(LoadFault::Sheet(fault, at)),
-    };
-    let Ok(job) = job_of::<W>(value) else {
-        return Err(LoadFault::Sheet(SheetFault::NoWeight, at));
-    };
+    let value = record_value(&sheet[at..], Tag::Job, size, size)
+        .map_err(|fault| LoadFault::Sheet(fault, at))?;
+    let job =
+        job_of::<W>(value).map_err(|fault| LoadFault::Sheet(SheetFault::from(fault), at))?;
     let taken = number_taken::<W>(&sheet[first..at], job.number);
     match admission(job.number, job.ready, job.deadline, taken, count) {
         Some(fault) => Err(LoadFault::Table(fault, at)),
@@ -55,29 +53,23 @@ fn check_jobs<W: OrderedWeight>(sheet: &[u8], first: usize) -> Result<usize, Loa
 }
 
 // Reads a sheet for the kind W, or answers its first fault. No sheet has two readings.
+#[tactic(auto, using(crate::proofs::OneReading::one_reading))]
 pub fn read<W: OrderedWeight>(sheet: &[u8]) -> Result<Sheet<'_, W>, LoadFault>
     ensures value { MatchResult result (λ s. Accepted W.OrderedWeight.code W.OrderedWeight.width W.OrderedWeight.encoding sheet.now s.masks.now s.records.now s.count) (λ fault. Refused W.OrderedWeight.code W.OrderedWeight.width W.OrderedWeight.encoding sheet.now fault) }
     ensures alone { OneReading W.OrderedWeight.code W.OrderedWeight.width W.OrderedWeight.encoding }
 {
-    let code = match code_of(sheet) {
-        Ok(code) => code,
-        Err(fault) => return Err(LoadFault::Sheet(fault, 0)),
-    };
+    let code = code_of(sheet).map_err(|fault| LoadFault::Sheet(fault, 0))?;
     if code != W::kind_code() {
         return Err(LoadFault::Sheet(SheetFault::OtherKind, 0));
     }
-    let masks = match record_value(&sheet[4..], 2, 0, 1024) {
-        Ok(masks) => masks,
-        Err(fault) => return Err(LoadFault::Sheet(fault, 4)),
-    };
+    let masks = record_value(&sheet[4..], Tag::Calendar, 0, 1024)
+        .map_err(|fault| LoadFault::Sheet(fault, 4))?;
     let first = 7 + masks.len();
-    match check_jobs::<W>(sheet, first) {
-        Ok(count) => Ok(Sheet {
-            masks,
-            records: &sheet[first..],
-            count,
-            kind: PhantomData,
-        }),
-        Err(fault) => Err(fault),
-    }
+    let count = check_jobs::<W>(sheet, first)?;
+    Ok(Sheet {
+        masks,
+        records: &sheet[first..],
+        count,
+        kind: PhantomData,
+    })
 }
