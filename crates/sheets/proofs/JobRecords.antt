@@ -33,12 +33,12 @@ module _ {W : Type 0} (encoding : W → List ℕ) (width : ℕ) (sized : (w : W)
   cuts (job ∷ jobs) s e size = (
     λ t step. omega (arith, ap length e, longer job jobs),
     λ part t step.
-      let same : part.now ++ chunks_exact_rest t ≡ record_of encoding job ++ job_records encoding jobs = sym step.1.0 ∙ e in
-      let long : length part.now ≡ 9 + width = step.1.1 ∙ size in
-      let one = record_long job in (
-        sym (take_at part.now (chunks_exact_rest t) (9 + width) long) ∙ ap (take (9 + width)) same ∙ take_at (record_of encoding job) (job_records encoding jobs) (9 + width) one,
-        cuts jobs t (sym (drop_at part.now (chunks_exact_rest t) (9 + width) long) ∙ ap (drop (9 + width)) same ∙ drop_at (record_of encoding job) (job_records encoding jobs) (9 + width) one) (step.0 ∙ size),
-      ),
+        let same : part.now ++ chunks_exact_rest t ≡ record_of encoding job ++ job_records encoding jobs = sym step.1.0 ∙ e in
+        let long : length part.now ≡ 9 + width = step.1.1 ∙ size in
+        let one = record_long job in (
+          sym (take_at part.now (chunks_exact_rest t) (9 + width) long) ∙ ap (take (9 + width)) same ∙ take_at (record_of encoding job) (job_records encoding jobs) (9 + width) one,
+          cuts jobs t (sym (drop_at part.now (chunks_exact_rest t) (9 + width) long) ∙ ap (drop (9 + width)) same ∙ drop_at (record_of encoding job) (job_records encoding jobs) (9 + width) one) (step.0 ∙ size),
+        ),
   )
 
   pub records_cut : (jobs : List (Job W)) (s : _) (records : List ℕ) → chunks_exact_rest s ≡ records → records ≡ job_records encoding jobs → chunks_exact_size s ≡ 9 + width

@@ -1,15 +1,13 @@
 -- The reader's answers at one job record, from what its parts answer.
-use Rattle.std.proofs.Common.{◌≡◌, ℕ, ◌+◌, ◌-◌, ◌<◌, Bool, ◌⊎◌, List, [], ◌∷◌, ◌++◌, length, take, drop, sym, refl, ap, ◌∙◌, subst, inl, inr, ⊎_elim, arith}
+use Rattle.std.proofs.Common.{◌≡◌, ℕ, ◌+◌, ◌-◌, ◌<◌, Bool, List, [], ◌∷◌, ◌++◌, length, take, drop, sym, refl, ap, ◌∙◌, subst, arith}
 use Rattle.std.proofs.lemmas.List.{append-nil, append_assoc, take_rest, take_at, take-append-drop, drop_at, drop-drop, length-append, length-drop, length_push, length-take-le}
 use Rattle.jobs.specs.declared.terms.Job.{Job}
 use Rattle.jobs.specs.declared.terms.TableFault.{TableFault}
 use Rattle.jobs.specs.Admission.{Admissible, RefusedFor, taken, Admitted}
-use Rattle.sheets.specs.declared.fault.SheetFault.{SheetFault}
-use Rattle.sheets.specs.declared.fault.SheetFault.TheVariants.{NoWeight}
 use Rattle.sheets.specs.declared.fault.LoadFault.{LoadFault}
-use Rattle.sheets.specs.declared.fault.LoadFault.TheVariants.{Sheet, Table}
+use Rattle.sheets.specs.declared.fault.LoadFault.TheVariants.{Table}
 use Rattle.sheets.specs.Faults.{load_fault_byte}
-use Rattle.sheets.specs.Format.{record_bytes, job_value, job_records, Framed, FrameFault, JobCause}
+use Rattle.sheets.specs.Format.{record_bytes, job_value, job_records, Framed, JobCause}
 use Rattle.sheets.specs.Steps.{JobRead, JobsRead, JobsRefused}
 
 -- what the code sees of the sheet from byte `at` on, with a width that a call answered
@@ -22,14 +20,6 @@ module _ {W : Type 0} (code width : ℕ) (encoding : W → List ℕ) (before : L
 
   framed_here : (value : List ℕ) → framed_as value → Framed 3 (6 + width) (6 + width) (drop at sheet) value
   framed_here value = at_rest (λ k rest. Framed 3 k k rest value) sheet at n width known
-
-  pub frame_refused : (fault : SheetFault) → FrameFault 3 (6 + n) (6 + n) (take (length sheet - at) (drop at sheet)) fault → (at ≡ at) × JobCause code width encoding before (drop at sheet) (Sheet fault at)
-  frame_refused fault h = (refl, inl (at_rest (λ k rest. FrameFault 3 k k rest fault) sheet at n width known h))
-
-  pub weight_refused : (value : List ℕ) → framed_as value → (length value < 6) ⊎ ((w : W) → encoding w ≡ drop 6 value → ⊥) → (at ≡ at) × JobCause code width encoding before (drop at sheet) (Sheet NoWeight at)
-  weight_refused value f h =
-      let g = framed_here value f in
-      (refl, inr (refl, (value, g, ⊎_elim (λ short. absurd (omega (arith, g.long))) (λ none. none) h)))
 
   module _ (value : List ℕ) (f : framed_as value) (job : Job W) (same : job_value encoding job ≡ value) (count : ℕ) (few : length before ≡ count) (b : Bool) (tells : b ≡ taken job.number before) where
     job_framed : Framed 3 (6 + width) (6 + width) (drop at sheet) (job_value encoding job)

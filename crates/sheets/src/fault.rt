@@ -1,6 +1,7 @@
 // Why a sheet is refused: by the reader, or by the table that takes its jobs.
 ghost use Rattle.std.specs.Prelude.{◌≡◌};
 ghost use Rattle.sheets.specs.declared.fault.SheetFault.TheVariants.{NoWeight};
+ghost use Rattle.sheets.specs.declared.fault.LoadFault.TheVariants.{Sheet};
 ghost use Rattle.sheets.specs.Faults.{sheet_fault_number, load_fault_number, load_fault_byte, load_fault_job};
 
 use jobs::terms::TableFault;
@@ -42,6 +43,13 @@ impl SheetFault {
             SheetFault::WrongLength => 5,
             SheetFault::NoWeight => 7,
         }
+    }
+
+    // The same fault, as that of the record whose tag stands at this byte.
+    pub(crate) fn at(self, byte: usize) -> LoadFault
+        ensures { result ≡ Sheet self byte }
+    {
+        LoadFault::Sheet(self, byte)
     }
 }
 

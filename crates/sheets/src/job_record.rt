@@ -27,9 +27,8 @@ pub(crate) fn job_of<W: OrderedWeight>(value: &[u8]) -> Result<Job<W>, WeightFau
 pub(crate) fn number_taken<W: OrderedWeight>(records: &[u8], number: u16) -> bool
     ensures { (jobs : List (Job W)) → records.now ≡ job_records W.OrderedWeight.encoding jobs → result ≡ taken number jobs }
 {
-    records
-        .chunks_exact(9 + W::byte_width())
-        .any(|record| u16::from_be_bytes([record[3], record[4]]) == number)
+    let mut parts = records.chunks_exact(9 + W::byte_width());
+    parts.any(|record| u16::from_be_bytes([record[3], record[4]]) == number)
 }
 
 // The job of the k-th of these records; None where there is no such record, or its bytes are no job.

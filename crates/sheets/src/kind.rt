@@ -56,5 +56,5 @@ pub fn kind_of(sheet: &[u8]) -> Result<Kind, LoadFault>
 {
     code_of(sheet)
         .and_then(Kind::try_from)
-        .map_err(|fault| LoadFault::Sheet(fault, 0))
+        .map_err(|fault| fault.at(0))
 }

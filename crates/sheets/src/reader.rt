@@ -27,10 +27,8 @@ fn check_job<W: OrderedWeight>(
     ensures { (before : List (Job W)) → take (at - first) (drop first sheet.now) ≡ job_records W.OrderedWeight.encoding before → length before ≡ count → JobAnswer W.OrderedWeight.code W.OrderedWeight.width W.OrderedWeight.encoding before sheet.now at result }
 {
     let size = 6 + W::byte_width();
-    let value = record_value(&sheet[at..], Tag::Job, size, size)
-        .map_err(|fault| LoadFault::Sheet(fault, at))?;
-    let job =
-        job_of::<W>(value).map_err(|fault| LoadFault::Sheet(SheetFault::from(fault), at))?;
+    let value = record_value(&sheet[at..], Tag::Job, size, size).map_err(|fault| fault.at(at))?;
+    let job = job_of::<W>(value).map_err(|fault| SheetFault::from(fault).at(at))?;
     let taken = number_taken::<W>(&sheet[first..at], job.number);
     match admission(job.number, job.ready, job.deadline, taken, count) {
         Some(fault) => Err(LoadFault::Table(fault, at)),
@@ -39,6 +37,7 @@ fn check_job<W: OrderedWeight>(
 }
 
 // The job records from byte `first` to the end: how many there are, or the first fault.
+// A cursor and no iterator over parts of one size, since the next record begins where this one's own length says.
 fn check_jobs<W: OrderedWeight>(sheet: &[u8], first: usize) -> Result<usize, LoadFault>
     requires { first ≤ length sheet.now }
     ensures { MatchResult result (λ count. JobsRead W.OrderedWeight.code W.OrderedWeight.width W.OrderedWeight.encoding sheet.now first (length sheet.now) count) (λ fault. JobsRefused W.OrderedWeight.code W.OrderedWeight.width W.OrderedWeight.encoding sheet.now first fault) }
@@ -58,12 +57,11 @@ pub fn read<W: OrderedWeight>(sheet: &[u8]) -> Result<Sheet<'_, W>, LoadFault>
     ensures value { MatchResult result (λ s. Accepted W.OrderedWeight.code W.OrderedWeight.width W.OrderedWeight.encoding sheet.now s.masks.now s.records.now s.count) (λ fault. Refused W.OrderedWeight.code W.OrderedWeight.width W.OrderedWeight.encoding sheet.now fault) }
     ensures alone { OneReading W.OrderedWeight.code W.OrderedWeight.width W.OrderedWeight.encoding }
 {
-    let code = code_of(sheet).map_err(|fault| LoadFault::Sheet(fault, 0))?;
+    let code = code_of(sheet).map_err(|fault| fault.at(0))?;
     if code != W::kind_code() {
-        return Err(LoadFault::Sheet(SheetFault::OtherKind, 0));
+        return Err(SheetFault::OtherKind.at(0));
     }
-    let masks = record_value(&sheet[4..], Tag::Calendar, 0, 1024)
-        .map_err(|fault| LoadFault::Sheet(fault, 4))?;
+    let masks = record_value(&sheet[4..], Tag::Calendar, 0, 1024).map_err(|fault| fault.at(4))?;
     let first = 7 + masks.len();
     let count = check_jobs::<W>(sheet, first)?;
     Ok(Sheet {
