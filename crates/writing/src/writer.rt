@@ -9,6 +9,7 @@ ghost use Rattle.writing.specs.Readings.{ReadsBack, WrittenBack};
 ghost use Rattle.writing.specs.Written.{masks_of, written_sheet, Written};
 
 use crate::fault::WriteFault;
+use crate::front::Front;
 use crate::records::{put_calendar, put_jobs, put_kind};
 use calendars::calendar::Calendar;
 use jobs::terms::Row;
@@ -24,7 +25,7 @@ fn sheet_length<W: OrderedWeight, C: Calendar>(rows: &[Row], calendar: &C) -> us
     7 + calendar.end() as usize + rows.len() * (9 + W::byte_width())
 }
 
-// Puts the sheet at the front of a buffer that has room for it.
+// Puts the sheet at the front of a buffer that has room for it, and answers how many bytes it has.
 fn put_sheet<W: OrderedWeight, C: Calendar>(
     rows: &[Row],
     calendar: &C,
@@ -35,9 +36,11 @@ fn put_sheet<W: OrderedWeight, C: Calendar>(
     requires room { 7 + C.Calendar.end calendar.now + length rows.now * (9 + W.OrderedWeight.width) ≤ length out.old }
     ensures value { Put 0 (written_sheet W.OrderedWeight.code W.OrderedWeight.encoding (C.Calendar.end calendar.now) (C.Calendar.mask calendar.now) rows.now store.now) out.old out.new result }
 {
-    let masks = put_kind::<W>(out, 0);
-    let first = put_calendar(calendar, out, masks);
-    put_jobs(rows, store, out, first)
+    let mut front = Front { out, len: 0 };
+    put_kind::<W>(&mut front);
+    put_calendar(calendar, &mut front);
+    put_jobs(rows, store, &mut front);
+    front.len
 }
 
 // Writes the sheet of the plan's table under the calendar at the front of the buffer, the jobs in rank order with the store's weights,
