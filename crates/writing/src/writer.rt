@@ -59,7 +59,7 @@ pub fn write<W: OrderedWeight, C: Calendar>(
 {
     let rows = plan.rows();
     if let Some(fault) = store_fault(rows, store) {
-        return Err(WriteFault::Store(fault));
+        return Err(WriteFault::from(fault));
     }
     if out.len() < sheet_length::<W, C>(rows, calendar) {
         return Err(WriteFault::TooShort);

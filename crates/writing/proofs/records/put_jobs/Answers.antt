@@ -23,5 +23,7 @@ loop-row-preserved g c =
 pub returns : goal.returns
 returns g c =
     let w = g.W.OrderedWeight in
-    record { value = all_put w.encoding w.width g.met.W.OrderedWeight.sized c.args.rows.now c.args.store.now c.args.front.now c.loop-row.front (iter_rest (zip_first c.loop-row.row-iterator)) (iter_rest (zip_second c.loop-row.row-iterator))
-      (⊎_elim (λ x. inl x.1.0) (λ x. inr x.1.0) c.in-None.ensures.steps) c.loop-row.invariant.2 }
+    record {
+      value = all_put w.encoding w.width g.met.W.OrderedWeight.sized c.args.rows.now c.args.store.now c.args.front.now c.loop-row.front (iter_rest (zip_first c.loop-row.row-iterator)) (iter_rest (zip_second c.loop-row.row-iterator))
+          (⊎_elim (λ x. inl x.1.0) (λ x. inr x.1.0) c.in-None.ensures.steps) c.loop-row.invariant.2;
+    }
