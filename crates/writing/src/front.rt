@@ -46,13 +46,13 @@ impl Front<'_> {
 
     // Puts the bytes of a weight.
     pub(crate) fn put_weight<W: OrderedWeight>(&mut self, weight: &W)
-        requires room { Room W.OrderedWeight.width self.old }
+        requires room { Room W.OrderedWeight.WIDTH self.old }
         ensures value { Adds (W.OrderedWeight.encoding weight.now) self.old self.new }
     {
         let start = self.len;
-        let end = start + W::byte_width();
+        let end = start + W::WIDTH;
         let out = &mut *self.out;
-        weight.write(&mut out[start..end]);
+        weight.write(&mut out[start..end]).unwrap();
         self.len = end;
     }
 }

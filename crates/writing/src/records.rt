@@ -15,10 +15,10 @@ use weights::kind::OrderedWeight;
 // Puts the record of the kind's code.
 pub(crate) fn put_kind<W: OrderedWeight>(front: &mut Front)
     requires room { Room 4 front.old }
-    ensures value { Adds (kind_record W.OrderedWeight.code) front.old front.new }
+    ensures value { Adds (kind_record W.OrderedWeight.CODE) front.old front.new }
 {
     front.put_header(Tag::Kind, 1);
-    front.put(&[W::kind_code()]);
+    front.put(&[W::CODE]);
 }
 
 // Puts the calendar's mask for each slot below its end.
@@ -42,10 +42,10 @@ pub(crate) fn put_calendar<C: Calendar>(calendar: &C, front: &mut Front)
 
 // Puts the record of a job.
 fn put_job<W: OrderedWeight>(row: &Row, weight: &W, front: &mut Front)
-    requires room { Room (9 + W.OrderedWeight.width) front.old }
+    requires room { Room (9 + W.OrderedWeight.WIDTH) front.old }
     ensures value { Adds (record_bytes 3 (job_value W.OrderedWeight.encoding (job_of row.now weight.now))) front.old front.new }
 {
-    front.put_header(Tag::Job, (6 + W::byte_width()) as u16);
+    front.put_header(Tag::Job, (6 + W::WIDTH) as u16);
     front.put_two(row.number);
     front.put_two(row.ready);
     front.put_two(row.deadline);
@@ -55,7 +55,7 @@ fn put_job<W: OrderedWeight>(row: &Row, weight: &W, front: &mut Front)
 // Puts the records of the rows' jobs, in their order, with the weights that the store has for them.
 pub(crate) fn put_jobs<W: OrderedWeight>(rows: &[Row], store: &[W], front: &mut Front)
     requires stored { length rows.now ≤ length store.now }
-    requires room { Room (length rows.now * (9 + W.OrderedWeight.width)) front.old }
+    requires room { Room (length rows.now * (9 + W.OrderedWeight.WIDTH)) front.old }
     ensures value { Adds (job_records W.OrderedWeight.encoding (jobs_in rows.now store.now)) front.old front.new }
 {
     for (row, weight) in rows.iter().zip(store) {

@@ -9,16 +9,16 @@ returns-in_err-count-clause-value g c =
     let w = g.W.OrderedWeight in
     let sheet = c.args.sheet.now in
     let masks = c.in_ok-masks.masks.now in
-    let begun = begun_from sheet masks c.in_ok-code.code c.kind_code.result w.code (search rules) c.if-code-kind_code.false c.kind_code.ensures (search rules) in
+    let begun = begun_from sheet masks c.in_ok-code.code c.CODE.result w.CODE (search rules) c.if-code-CODE.false c.CODE.ensures (search rules) in
     let p = err_from_is_err_and c.from_residual-in_err-count.result c.from_residual-in_err-count.ensures.1 in
-    rw (p.1, p.2) (jobs_refused_whole w.code w.width w.encoding sheet masks begun c.in_err-count.field-0.0 c.in_err-count.ensures)
+    rw (p.1, p.2) (jobs_refused_whole w.CODE w.WIDTH w.encoding sheet masks begun c.in_err-count.field-0.0 c.in_err-count.ensures)
 
 pub returns-in_err-count-clause-alone : goal.returns-in_err-count-clause-alone
 returns-in_err-count-clause-alone g c =
     let w = g.W.OrderedWeight in
-    one_reading w.code w.width w.encoding g.met.W.OrderedWeight.sized g.met.W.OrderedWeight.injective
+    one_reading w.CODE w.WIDTH w.encoding g.met.W.OrderedWeight.sized g.met.W.OrderedWeight.injective
 
 pub returns-clause-alone : goal.returns-clause-alone
 returns-clause-alone g c =
     let w = g.W.OrderedWeight in
-    one_reading w.code w.width w.encoding g.met.W.OrderedWeight.sized g.met.W.OrderedWeight.injective
+    one_reading w.CODE w.WIDTH w.encoding g.met.W.OrderedWeight.sized g.met.W.OrderedWeight.injective

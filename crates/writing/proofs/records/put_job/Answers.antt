@@ -17,8 +17,8 @@ returns g c =
     let d = c.put_two-2.new.self in
     let e = c.put_two-3.new.self in
     let z = c.put_weight.new.self in
-    let k = c.byte_width.result in
-    let long : 6 + k ≡ length (job_value w.encoding job) = (let v = value_long w.encoding w.width g.met.W.OrderedWeight.sized job in let h = c.byte_width.ensures in omega arith) in
+    let k = c.WIDTH.result in
+    let long : 6 + k ≡ length (job_value w.encoding job) = (let v = value_long w.encoding w.WIDTH g.met.W.OrderedWeight.sized job in let h = c.WIDTH.ensures in omega arith) in
     record {
       value = subst (λ (n : ℕ). Adds (3 ∷ two n ++ job_value w.encoding job) front z) long
           (adds_then (3 ∷ two (6 + k)) front a c.put_header.ensures.value (job_value w.encoding job) z

@@ -6,6 +6,6 @@ use Rattle.writing.proofs.records.put_kind.Goals as goal
 
 pub returns : goal.returns
 returns g c = record {
-  value = subst (λ (k : ℕ). Adds (kind_record k) c.args.front.now c.put.new.self) c.kind_code.ensures
-      (adds_then (1 ∷ two 1) c.args.front.now c.put_header.new.self c.put_header.ensures.value (c.kind_code.result ∷ []) c.put.new.self c.put.ensures.value);
+  value = subst (λ (k : ℕ). Adds (kind_record k) c.args.front.now c.put.new.self) c.CODE.ensures
+      (adds_then (1 ∷ two 1) c.args.front.now c.put_header.new.self c.put_header.ensures.value (c.CODE.result ∷ []) c.put.new.self c.put.ensures.value);
 }
