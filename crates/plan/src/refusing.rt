@@ -11,9 +11,8 @@ ghost use Rattle.plan.specs.Tables.{rows_of};
 
 use crate::table::Table;
 use calls::terms::CallFault;
-use jobs::admission::admission;
 use jobs::terms::Job;
-use questions::order::store_fault;
+use questions::order::check_store;
 use weights::kind::OrderedWeight;
 
 // The first cause against an offer.
@@ -24,13 +23,13 @@ pub(crate) fn offer_fault<W: OrderedWeight>(
 ) -> Option<CallFault>
     ensures cases { MatchOption result (StoreGood (heavier_then_lower W.OrderedWeight.no_lighter) (rows_of table.now) store.now × NoCause (heavier_then_lower W.OrderedWeight.no_lighter) (Offer job.now) (at (rows_of table.now) store.now)) (FirstCause (heavier_then_lower W.OrderedWeight.no_lighter) (Offer job.now) (at (rows_of table.now) store.now)) }
 {
-    if let Some(fault) = store_fault(table.rows(), store) {
+    if let Err(fault) = check_store(table.rows(), store) {
         return Some(CallFault::Store(fault));
     }
     let taken = table.find(job.number).is_some();
-    match admission(job.number, job.ready, job.deadline, taken, table.len()) {
-        Some(fault) => Some(CallFault::Table(fault)),
-        None => None,
+    match job.admission(taken, table.len()) {
+        Err(fault) => Some(CallFault::Table(fault)),
+        Ok(()) => None,
     }
 }
 
@@ -42,7 +41,7 @@ pub(crate) fn named_rank<W: OrderedWeight>(
 ) -> Result<usize, CallFault>
     ensures cases { MatchResult result (λ rank. StoreGood (heavier_then_lower W.OrderedWeight.no_lighter) (rows_of table.now) store.now × (rank < table.now.count) × ((row_at (rows_of table.now) rank).number ≡ number)) (NameRefused (heavier_then_lower W.OrderedWeight.no_lighter) (rows_of table.now) store.now number) }
 {
-    if let Some(fault) = store_fault(table.rows(), store) {
+    if let Err(fault) = check_store(table.rows(), store) {
         return Err(CallFault::Store(fault));
     }
     match table.find(number) {
