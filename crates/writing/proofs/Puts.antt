@@ -4,11 +4,11 @@ use Rattle.std.proofs.lemmas.List.{append_assoc, take-append-drop, take_at, drop
 use Rattle.writing.specs.declared.front.Front.{Front}
 use Rattle.writing.specs.Puts.{Put, Room, Adds}
 
-pub put_nothing : (at : ℕ) (out : List ℕ) → Put at [] out out at
+put_nothing : (at : ℕ) (out : List ℕ) → Put at [] out out at
 put_nothing at out = record { buffer = sym (take-append-drop at out); place = omega arith }
 
 -- some bytes, and more behind them
-pub put_then : (at m n : ℕ) (xs ys a b c : List ℕ) → at ≤ length a → Put at xs a b m → Put m ys b c n → Put at (xs ++ ys) a c n
+put_then : (at m n : ℕ) (xs ys a b c : List ℕ) → at ≤ length a → Put at xs a b m → Put m ys b c n → Put at (xs ++ ys) a c n
 put_then at m n xs ys a b c h p q =
     let front = take at a ++ xs in
     let mid : b ≡ front ++ drop m a = p.buffer ∙ sym (append_assoc (take at a) xs (drop m a)) in
