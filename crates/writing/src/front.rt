@@ -20,10 +20,8 @@ impl Front<'_> {
         requires room { Room (length bytes.now) self.old }
         ensures value { Adds bytes.now self.old self.new }
     {
-        let start = self.len;
-        let end = start + bytes.len();
-        let out = &mut *self.out;
-        out[start..end].copy_from_slice(bytes);
+        let end = self.len + bytes.len();
+        self.out[self.len..end].copy_from_slice(bytes);
         self.len = end;
     }
 
@@ -49,10 +47,8 @@ impl Front<'_> {
         requires room { Room W.OrderedWeight.WIDTH self.old }
         ensures value { Adds (W.OrderedWeight.encoding weight.now) self.old self.new }
     {
-        let start = self.len;
-        let end = start + W::WIDTH;
-        let out = &mut *self.out;
-        weight.write(&mut out[start..end]).unwrap();
+        let end = self.len + W::WIDTH;
+        weight.write(&mut self.out[self.len..end]).unwrap();
         self.len = end;
     }
 }
