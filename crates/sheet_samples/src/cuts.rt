@@ -30,7 +30,7 @@ fn every_cut(rt: HostRuntime) -> Result<(), Fail> {
     let sheet = bytes.as_slice();
     assert!(rt; sheet.len() == 76);
     for length in 0..76 {
-        check_answer::<Points>(length, &sheet[0..length], answer_of_cut(length))?;
+        check_answer::<Points>(length, &sheet[..length], answer_of_cut(length))?;
     }
     Ok(())
 }
@@ -43,7 +43,7 @@ fn shorter_sheets(rt: HostRuntime) -> Result<(), Fail> {
     let jobs = sample_jobs()?;
     assert!(rt; sheet.len() == 76);
     for count in 0..5 {
-        check_read::<Points>(count, &sheet[0..11 + 13 * count], &MASKS, &jobs[0..count])?;
+        check_read::<Points>(count, &sheet[..11 + 13 * count], &MASKS, &jobs[..count])?;
     }
     Ok(())
 }

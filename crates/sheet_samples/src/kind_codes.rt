@@ -2,6 +2,7 @@
 use crate::sample::*;
 use sheets::fault::{LoadFault, SheetFault};
 use sheets::kind::{Kind, kind_of};
+use sheets::tag::Tag;
 use std::test::Fail;
 
 // The first bytes of a sheet, what there is to them, and the answer that the rules give.
@@ -105,6 +106,24 @@ fn kinds_are_named(rt: HostRuntime) -> Result<(), Fail> {
     assert_eq!(rt; kind_of(&joined(rt.alloc(), SAMPLE)?), Ok(Kind::Points));
     for case in &NAMED {
         assert_eq!(rt; kind_of(case.sheet), case.answer, "{}", case.what);
+    }
+    Ok(())
+}
+
+// Each kind by its code, and each tag by its byte.
+#[test]
+fn codes_and_tags(rt: HostRuntime) -> Result<(), Fail> {
+    for (code, kind) in [(1, Kind::Points), (2, Kind::Classed), (3, Kind::Share)] {
+        assert_eq!(rt; kind.code(), code);
+        assert_eq!(rt; Kind::try_from(code), Ok(kind));
+    }
+    for (byte, tag) in [(1, Tag::Kind), (2, Tag::Calendar), (3, Tag::Job)] {
+        assert_eq!(rt; tag.byte(), byte);
+        assert_eq!(rt; Tag::try_from(byte), Ok(tag));
+    }
+    for byte in [0u8, 4, 255] {
+        assert_eq!(rt; Kind::try_from(byte), Err(SheetFault::OtherKind));
+        assert_eq!(rt; Tag::try_from(byte), Err(SheetFault::UnknownTag));
     }
     Ok(())
 }

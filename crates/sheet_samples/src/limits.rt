@@ -66,7 +66,7 @@ const BEHIND: [Case; 10] = [
 // A sheet of the jobs 1 to 256, each with one point and the window of slot 0.
 fn full_sheet(heap: Global) -> Result<Vec<u8>, AllocError> {
     let mut sheet = joined(heap, &[KIND, NO_SLOTS])?;
-    for number in 1..257u16 {
+    for number in 1..=256u16 {
         let [high, low] = number.to_be_bytes();
         sheet.extend_from_slice(&[3, 0, 10, high, low, 0, 0, 0, 1, 0, 0, 0, 1])?;
     }

@@ -1,11 +1,20 @@
 -- The records of some jobs, one after the other: how long they are, what the first says, one more at the end.
-use Rattle.std.proofs.Common.{◌≡◌, ℕ, zero, suc, ◌+◌, ◌-◌, ◌*◌, ◌/◌, ◌%◌, ◌<◌, ◌≤◌, true, false, eqb, List, [], ◌∷◌, length, get_or, take, drop, Some, None, Option, sym, refl, ap, ◌∙◌, subst, suc-mul, zero-mul, arith, MatchOption}
-use Rattle.std.proofs.lemmas.List.{drop_at, drop-drop, take_at, length-append}
-use Rattle.std.proofs.lemmas.Bool.{eq-eqb, ne_eqb}
+use Rattle.std.proofs.Common.{◌≡◌, ℕ, zero, suc, ◌+◌, ◌-◌, ◌*◌, ◌/◌, ◌%◌, ◌<◌, ◌≤◌, eqb, List, [], ◌∷◌, ◌++◌, map, Bool, length, get_or, take, drop, Some, None, Option, Ok, Err, Result, sym, refl, ap, ◌∙◌, subst, suc-mul, zero-mul, arith, inl, inr, ◌⊎◌, MatchOption, MatchResult}
+use Rattle.std.specs.List.{slice_range, list_any}
+use Rattle.std.specs.Iterator.{AlwaysYields}
+use Rattle.std.specs.Slice.Iter.{chunks_exact_rest, chunks_exact_size, chunks_exact_steps}
+use Rattle.std.proofs.lemmas.Iterator.{YieldsList}
+use Rattle.std.specs.Result.{result_ok}
+use Rattle.std.proofs.lemmas.Slice.{between_is, between_from_start, between_to_end}
+use Rattle.weights.specs.declared.fault.WeightFault.{WeightFault}
+use Rattle.std.proofs.lemmas.List.{take_rest, drop_at, drop-drop, take_at, length-append}
 use Rattle.jobs.specs.declared.terms.Job.{Job}
 use Rattle.jobs.specs.Admission.{taken}
 use Rattle.jobs.specs.Lists.{nth}
 use Rattle.sheets.specs.Format.{record_bytes, job_value, job_records, JobAt}
+
+abbrev pub record_of : {W : Type 0} → (W → List ℕ) → Job W → List ℕ
+record_of encoding job = record_bytes 3 (job_value encoding job)
 
 module _ {W : Type 0} (encoding : W → List ℕ) (width : ℕ) (sized : (w : W) → length (encoding w) ≡ width) where
   pub value_long : (job : Job W) → length (job_value encoding job) ≡ 6 + width
@@ -17,41 +26,56 @@ module _ {W : Type 0} (encoding : W → List ℕ) (width : ℕ) (sized : (w : W)
   pub longer : (head : Job W) (jobs : List (Job W)) → length (job_records encoding (head ∷ jobs)) ≡ 9 + width + length (job_records encoding jobs)
   longer head jobs = length-append (record_bytes 3 (job_value encoding head)) (job_records encoding jobs) ∙ ap (λ n. n + length (job_records encoding jobs)) (record_long head)
 
-  -- some jobs' records that are long enough begin with one job's
-  pub first_number : (number size n : ℕ) (rest : List ℕ) (left : List (Job W)) → size ≡ 9 + width → size ≤ length rest → rest ≡ job_records encoding left
-      → n ≡ get_or rest 3 0 * 256 + get_or rest 4 0 → n ≡ number → taken number left ≡ true
-  first_number number size n rest [] s h e p q = absurd (omega (arith, ap length e))
-  first_number number size n rest (job ∷ more) s h e p q =
-      let a : get_or rest 3 0 ≡ job.number / 256 = ap (λ l. get_or l 3 0) e in
-      let b : get_or rest 4 0 ≡ job.number % 256 = ap (λ l. get_or l 4 0) e in
-      let same : eqb job.number number ≡ true = eq-eqb _ _ (omega arith) in
-      rw same
+  -- cut into parts of a record's size, some jobs' records give the record of each
+  cuts : (jobs : List (Job W)) (s : _) → chunks_exact_rest s ≡ job_records encoding jobs → chunks_exact_size s ≡ 9 + width
+      → AlwaysYields chunks_exact_steps (λ part. part.now) s (map (record_of encoding) jobs)
+  cuts [] s e size = λ part t step. omega (arith, ap length (sym e ∙ step.1.0), length-append part.now (chunks_exact_rest t))
+  cuts (job ∷ jobs) s e size = (
+    λ t step. omega (arith, ap length e, longer job jobs),
+    λ part t step.
+        let same : part.now ++ chunks_exact_rest t ≡ record_of encoding job ++ job_records encoding jobs = sym step.1.0 ∙ e in
+        let long : length part.now ≡ 9 + width = step.1.1 ∙ size in
+        let one = record_long job in (
+          sym (take_at part.now (chunks_exact_rest t) (9 + width) long) ∙ ap (take (9 + width)) same ∙ take_at (record_of encoding job) (job_records encoding jobs) (9 + width) one,
+          cuts jobs t (sym (drop_at part.now (chunks_exact_rest t) (9 + width) long) ∙ ap (drop (9 + width)) same ∙ drop_at (record_of encoding job) (job_records encoding jobs) (9 + width) one) (step.0 ∙ size),
+        ),
+  )
 
-  pub not_first : (number size n : ℕ) (rest : List ℕ) (left : List (Job W)) → size ≡ 9 + width → size ≤ length rest → rest ≡ job_records encoding left
-      → n ≡ get_or rest 3 0 * 256 + get_or rest 4 0 → (n ≡ number → ⊥)
-      → (more : List (Job W)) × (drop size rest ≡ job_records encoding more) × (taken number left ≡ taken number more)
-  not_first number size n rest [] s h e p q = absurd (omega (arith, ap length e))
-  not_first number size n rest (job ∷ more) s h e p q =
-      let a : get_or rest 3 0 ≡ job.number / 256 = ap (λ l. get_or l 3 0) e in
-      let b : get_or rest 4 0 ≡ job.number % 256 = ap (λ l. get_or l 4 0) e in
-      let other : eqb job.number number ≡ false = ne_eqb _ _ (λ i. q (omega arith)) in
-      let long = record_long job in
-      (more, ap (drop size) e ∙ drop_at (record_bytes 3 (job_value encoding job)) (job_records encoding more) size (omega arith), rw other)
+  pub records_cut : (jobs : List (Job W)) (s : _) (records : List ℕ) → chunks_exact_rest s ≡ records → records ≡ job_records encoding jobs → chunks_exact_size s ≡ 9 + width
+      → YieldsList chunks_exact_steps (λ part. part.now) s (map (record_of encoding) jobs)
+  records_cut jobs s records e f size = record { runs = cuts jobs s (e ∙ f) size }
 
-  pub none_left : (number size : ℕ) (rest : List ℕ) (left : List (Job W)) → size ≡ 9 + width → length rest < size → rest ≡ job_records encoding left → taken number left ≡ false
-  none_left number size rest [] s h e = refl
-  none_left number size rest (job ∷ more) s h e =
-      let long = record_long job in
-      absurd (omega (arith, ap length e, length-append (record_bytes 3 (job_value encoding job)) (job_records encoding more)))
+-- whether the number in a job's record is this one
+abbrev pub numbered : ℕ → List ℕ → Bool
+numbered number part = eqb (get_or part 3 0 * 256 + get_or part 4 0) number
 
--- what the code read of the k-th record, with a width that a call answered
-pub job_at_read : {W : Type 0} (encoding : W → List ℕ) (records : List ℕ) (job : Job W) (k n width at : ℕ) → n ≡ width → at ≡ k * (9 + n) → at ≤ length records
-    → 9 + n ≤ length records - at → job_value encoding job ≡ take (at + (9 + n) - (at + 3)) (drop (at + 3) records) → JobAt encoding (9 + width) records k job
-job_at_read encoding records job k n width at w e h fits v =
-    let long : at + (9 + n) - (at + 3) ≡ 9 + n - 3 = omega arith in
-    subst (λ m. JobAt encoding (9 + m) records k job) w
-    (subst (λ a. (a + (9 + n) ≤ length records) × (job_value encoding job ≡ take (9 + n - 3) (drop (a + 3) records))) e
-    (omega arith, v ∙ ap (λ m. take m (drop (at + 3) records)) long))
+pub numbered_taken : {W : Type 0} (encoding : W → List ℕ) (number : ℕ) (jobs : List (Job W)) → list_any (numbered number) (map (record_of encoding) jobs) ≡ taken number jobs
+numbered_taken encoding number [] = refl
+numbered_taken encoding number (job ∷ jobs) =
+    let same : job.number / 256 * 256 + job.number % 256 ≡ job.number = omega arith in
+    let more = numbered_taken encoding number jobs in
+    rw (same, more) refl
+
+-- the value of the record at byte `at`, which is the front of what is left there
+pub value_at : (records rest one : List ℕ) (at size : ℕ) → 3 ≤ size → rest ≡ slice_range records at (length records) → one ≡ slice_range rest 0 size
+    → take (length one - 3) (drop 3 one) ≡ take (size - 3) (drop (at + 3) records)
+value_at records rest one at size h p q =
+    let left : rest ≡ drop at records = p ∙ between_to_end records at (length records) (omega arith) in
+    let front : one ≡ take size (drop at records) = q ∙ between_from_start rest size ∙ ap (take size) left in
+    take_rest one 3 ∙ ap (drop 3) front ∙ sym (between_is (drop at records) 3 size) ∙ ap (take (size - 3)) (drop-drop 3 at records)
+
+-- what was read of the value of the k-th record is the job there; else no job is there
+pub job_at_read : {W : Type 0} (encoding : W → List ℕ) (records value : List ℕ) (k width n : ℕ) (read : Result (Job W) WeightFault) → n ≡ width → k * (9 + n) + (9 + n) ≤ length records
+    → value ≡ take (9 + n - 3) (drop (k * (9 + n) + 3) records)
+    → MatchResult read (λ job. job_value encoding job ≡ value) (λ _. (length value < 6) ⊎ ((w : W) → encoding w ≡ drop 6 value → ⊥))
+    → MatchOption (result_ok read) ((job : Job W) → JobAt encoding (9 + width) records k job → ⊥) (λ job. JobAt encoding (9 + width) records k job)
+job_at_read encoding records value k width n (Ok job) w fits v r = subst (λ m. JobAt encoding (9 + m) records k job) w (fits, r ∙ v)
+job_at_read encoding records value k width n (Err fault) w fits v r = λ job at.
+    let same : job_value encoding job ≡ value = at.1 ∙ (ap (λ m. take (9 + m - 3) (drop (k * (9 + m) + 3) records)) (sym w) ∙ sym v) in
+    elim r [
+      | inl short ↦ omega (arith, ap length same)
+      | inr none ↦ none job.weight (ap (drop 6) same)
+    ]
 
 -- a number, and so a job, is known by its bytes
 two_same : (m n : ℕ) → m / 256 ≡ n / 256 → m % 256 ≡ n % 256 → m ≡ n

@@ -1,16 +1,14 @@
 -- The reader's answers at one job record, from what its parts answer.
-use Rattle.std.proofs.Common.{◌≡◌, ℕ, ◌+◌, ◌-◌, ◌<◌, Bool, ◌⊎◌, List, [], ◌∷◌, ◌++◌, length, take, drop, sym, refl, ap, ◌∙◌, subst, inl, inr, ⊎_elim, arith}
+use Rattle.std.proofs.Common.{◌≡◌, ℕ, ◌+◌, ◌-◌, ◌<◌, Bool, List, [], ◌∷◌, ◌++◌, length, take, drop, sym, refl, ap, ◌∙◌, subst, Ok, Err, Result, MatchResult, arith}
 use Rattle.std.proofs.lemmas.List.{append-nil, append_assoc, take_rest, take_at, take-append-drop, drop_at, drop-drop, length-append, length-drop, length_push, length-take-le}
 use Rattle.jobs.specs.declared.terms.Job.{Job}
 use Rattle.jobs.specs.declared.terms.TableFault.{TableFault}
 use Rattle.jobs.specs.Admission.{Admissible, RefusedFor, taken, Admitted}
-use Rattle.sheets.specs.declared.fault.SheetFault.{SheetFault}
-use Rattle.sheets.specs.declared.fault.SheetFault.TheVariants.{NoWeight}
 use Rattle.sheets.specs.declared.fault.LoadFault.{LoadFault}
-use Rattle.sheets.specs.declared.fault.LoadFault.TheVariants.{Sheet, Table}
+use Rattle.sheets.specs.declared.fault.LoadFault.TheVariants.{Table}
 use Rattle.sheets.specs.Faults.{load_fault_byte}
-use Rattle.sheets.specs.Format.{record_bytes, job_value, job_records, Framed, FrameFault, JobCause}
-use Rattle.sheets.specs.Steps.{JobRead, JobsRead, JobsRefused}
+use Rattle.sheets.specs.Format.{record_bytes, job_value, job_records, Framed, JobCause}
+use Rattle.sheets.specs.Steps.{JobRead, JobAnswer, JobsRead, JobsRefused}
 
 -- what the code sees of the sheet from byte `at` on, with a width that a call answered
 at_rest : (P : ℕ → List ℕ → Type 0) (sheet : List ℕ) (at n width : ℕ) → n ≡ width → P (6 + n) (take (length sheet - at) (drop at sheet)) → P (6 + width) (drop at sheet)
@@ -23,19 +21,11 @@ module _ {W : Type 0} (code width : ℕ) (encoding : W → List ℕ) (before : L
   framed_here : (value : List ℕ) → framed_as value → Framed 3 (6 + width) (6 + width) (drop at sheet) value
   framed_here value = at_rest (λ k rest. Framed 3 k k rest value) sheet at n width known
 
-  pub frame_refused : (fault : SheetFault) → FrameFault 3 (6 + n) (6 + n) (take (length sheet - at) (drop at sheet)) fault → (at ≡ at) × JobCause code width encoding before (drop at sheet) (Sheet fault at)
-  frame_refused fault h = (refl, inl (at_rest (λ k rest. FrameFault 3 k k rest fault) sheet at n width known h))
-
-  pub weight_refused : (value : List ℕ) → framed_as value → (length value < 6) ⊎ ((w : W) → encoding w ≡ drop 6 value → ⊥) → (at ≡ at) × JobCause code width encoding before (drop at sheet) (Sheet NoWeight at)
-  weight_refused value f h =
-      let g = framed_here value f in
-      (refl, inr (refl, (value, g, ⊎_elim (λ short. absurd (omega (arith, g.long))) (λ none. none) h)))
-
   module _ (value : List ℕ) (f : framed_as value) (job : Job W) (same : job_value encoding job ≡ value) (count : ℕ) (few : length before ≡ count) (b : Bool) (tells : b ≡ taken job.number before) where
     job_framed : Framed 3 (6 + width) (6 + width) (drop at sheet) (job_value encoding job)
     job_framed = subst (λ v. Framed 3 (6 + width) (6 + width) (drop at sheet) v) (sym same) (framed_here value f)
 
-    pub table_refused : (fault : TableFault) → RefusedFor job.number job.ready job.deadline b count fault → (at ≡ at) × JobCause code width encoding before (drop at sheet) (Table fault at)
+    table_refused : (fault : TableFault) → RefusedFor job.number job.ready job.deadline b count fault → (at ≡ at) × JobCause code width encoding before (drop at sheet) (Table fault at)
     table_refused fault h = (
       refl,
       (
@@ -45,6 +35,11 @@ module _ {W : Type 0} (code width : ℕ) (encoding : W → List ℕ) (before : L
             (subst (λ k. RefusedFor job.number job.ready job.deadline b k fault) (sym few) h),
       ),
     )
+
+    pub table_answered : (P : Unit {0} → Type 0) (said : Result (Unit {0}) TableFault) (fault : LoadFault) (answer : Result ℕ LoadFault) → MatchResult said P (RefusedFor job.number job.ready job.deadline b count)
+        → MatchResult said (λ _. ⊥) (λ cause. fault ≡ Table cause at) → answer ≡ Err fault → JobAnswer code width encoding before sheet at answer
+    table_answered P (Ok done) fault answer h same e = absurd same
+    table_answered P (Err cause) fault answer h same e = rw (e, same) (table_refused cause h)
 
     pub job_read : at < length sheet → Admissible job.number job.ready job.deadline b count → JobRead code width encoding before sheet at (at + 3 + length value)
     job_read inside h =

@@ -4,3 +4,4 @@ pub mod Fronts
 pub mod Kinds
 pub mod Reading
 pub mod Steps
+pub mod Tags

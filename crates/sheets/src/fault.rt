@@ -1,8 +1,11 @@
 // Why a sheet is refused: by the reader, or by the table that takes its jobs.
 ghost use Rattle.std.specs.Prelude.{◌≡◌};
+ghost use Rattle.sheets.specs.declared.fault.SheetFault.TheVariants.{NoWeight};
+ghost use Rattle.sheets.specs.declared.fault.LoadFault.TheVariants.{Sheet};
 ghost use Rattle.sheets.specs.Faults.{sheet_fault_number, load_fault_number, load_fault_byte, load_fault_job};
 
 use jobs::terms::TableFault;
+use weights::fault::WeightFault;
 
 // The reader's own causes.
 #[derive(Clone, Copy, Debug, PartialEq, Eq)]
@@ -41,6 +44,24 @@ impl SheetFault {
             SheetFault::NoWeight => 7,
         }
     }
+
+    // The same fault, as that of the record whose tag stands at this byte.
+    pub(crate) fn at(self, byte: usize) -> LoadFault
+        ensures { result ≡ Sheet self byte }
+    {
+        LoadFault::Sheet(self, byte)
+    }
+}
+
+// Bytes that are no weight.
+impl From<WeightFault> for SheetFault {
+    ghost from_gives = { λ _ fault. fault ≡ NoWeight };
+
+    fn from(fault: WeightFault) -> SheetFault {
+        match fault {
+            WeightFault::NoWeight => SheetFault::NoWeight,
+        }
+    }
 }
 
 impl LoadFault {
@@ -59,8 +80,7 @@ impl LoadFault {
         ensures { result ≡ load_fault_byte self.now }
     {
         match self {
-            LoadFault::Sheet(_, byte) => *byte,
-            LoadFault::Table(_, byte) => *byte,
+            LoadFault::Sheet(_, byte) | LoadFault::Table(_, byte) => *byte,
         }
     }
 

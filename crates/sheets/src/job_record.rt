@@ -12,17 +12,14 @@ use weights::kind::OrderedWeight;
 pub(crate) fn job_of<W: OrderedWeight>(value: &[u8]) -> Result<Job<W>, WeightFault>
     ensures { MatchResult result (λ job. job_value W.OrderedWeight.encoding job ≡ value.now) (λ _. (length value.now < 6) ⊎ ((w : W) → W.OrderedWeight.encoding w ≢ drop 6 value.now)) }
 {
-    if value.len() < 6 {
-        return Err(WeightFault::NoWeight);
-    }
-    let Ok(weight) = W::read(&value[6..]) else {
+    let [n1, n0, r1, r0, d1, d0, weight @ ..] = value else {
         return Err(WeightFault::NoWeight);
     };
     Ok(Job {
-        number: u16::from_be_bytes([value[0], value[1]]),
-        ready: u16::from_be_bytes([value[2], value[3]]),
-        deadline: u16::from_be_bytes([value[4], value[5]]),
-        weight,
+        number: u16::from_be_bytes([*n1, *n0]),
+        ready: u16::from_be_bytes([*r1, *r0]),
+        deadline: u16::from_be_bytes([*d1, *d0]),
+        weight: W::read(weight)?,
     })
 }
 
@@ -30,15 +27,8 @@ pub(crate) fn job_of<W: OrderedWeight>(value: &[u8]) -> Result<Job<W>, WeightFau
 pub(crate) fn number_taken<W: OrderedWeight>(records: &[u8], number: u16) -> bool
     ensures { (jobs : List (Job W)) → records.now ≡ job_records W.OrderedWeight.encoding jobs → result ≡ taken number jobs }
 {
-    let size = 9 + W::WIDTH;
-    let mut rest = records;
-    while rest.len() >= size {
-        if u16::from_be_bytes([rest[3], rest[4]]) == number {
-            return true;
-        }
-        rest = &rest[size..];
-    }
-    false
+    let mut parts = records.chunks_exact(9 + W::WIDTH);
+    parts.any(|record| u16::from_be_bytes([record[3], record[4]]) == number)
 }
 
 // The job of the k-th of these records; None where there is no such record, or its bytes are no job.
@@ -46,14 +36,7 @@ pub(crate) fn job_at<W: OrderedWeight>(records: &[u8], k: usize) -> Option<Job<W
     ensures { MatchOption result ((job : Job W) → JobAt W.OrderedWeight.encoding (9 + W.OrderedWeight.WIDTH) records.now k job → ⊥) (λ job. JobAt W.OrderedWeight.encoding (9 + W.OrderedWeight.WIDTH) records.now k job) }
 {
     let size = 9 + W::WIDTH;
-    let Some(at) = k.checked_mul(size) else {
-        return None;
-    };
-    if at > records.len() || size > records.len() - at {
-        return None;
-    }
-    match job_of::<W>(&records[at + 3..at + size]) {
-        Ok(job) => Some(job),
-        Err(_) => None,
-    }
+    let at = k.checked_mul(size)?;
+    let record = records.get(at..)?.get(..size)?;
+    job_of(&record[3..]).ok()
 }

@@ -1,10 +1,11 @@
 // The kinds that a sheet may name, by the code in its kind record.
 ghost use Rattle.std.specs.Prelude.{◌≡◌, ℕ, List, [], ◌∷◌, ◌++◌, MatchResult};
 ghost use Rattle.sheets.specs.Format.{kind_record, Framed, FrameFault, KindRefused};
-ghost use Rattle.sheets.specs.Kinds.{kind_code, Offered};
+ghost use Rattle.sheets.specs.Kinds.{kind_code, Offered, KindRead};
 
 use crate::fault::{LoadFault, SheetFault};
 use crate::record::record_value;
+use crate::tag::Tag;
 
 #[derive(Clone, Copy, Debug, PartialEq, Eq)]
 pub enum Kind {
@@ -13,11 +14,39 @@ pub enum Kind {
     Share,
 }
 
+impl Kind {
+    // Its code in a sheet.
+    pub fn code(self) -> u8
+        ensures { result ≡ kind_code self }
+    {
+        match self {
+            Kind::Points => 1,
+            Kind::Classed => 2,
+            Kind::Share => 3,
+        }
+    }
+}
+
+impl TryFrom<u8> for Kind {
+    type Error = SheetFault;
+
+    ghost try_from_gives = { KindRead };
+
+    fn try_from(code: u8) -> Result<Kind, SheetFault> {
+        match code {
+            1 => Ok(Kind::Points),
+            2 => Ok(Kind::Classed),
+            3 => Ok(Kind::Share),
+            _ => Err(SheetFault::OtherKind),
+        }
+    }
+}
+
 // The code in the kind record, which is the first.
 pub(crate) fn code_of(sheet: &[u8]) -> Result<u8, SheetFault>
     ensures { MatchResult result (λ code. Framed 1 1 1 sheet.now (code ∷ [])) (λ fault. FrameFault 1 1 1 sheet.now fault) }
 {
-    let value = record_value(sheet, 1, 1, 1)?;
+    let value = record_value(sheet, Tag::Kind, 1, 1)?;
     Ok(value[0])
 }
 
@@ -25,11 +54,7 @@ pub(crate) fn code_of(sheet: &[u8]) -> Result<u8, SheetFault>
 pub fn kind_of(sheet: &[u8]) -> Result<Kind, LoadFault>
     ensures { MatchResult result (λ kind. (rest : List ℕ) × (sheet.now ≡ kind_record (kind_code kind) ++ rest)) (λ fault. KindRefused Offered sheet.now fault) }
 {
-    match code_of(sheet) {
-        Ok(1) => Ok(Kind::Points),
-        Ok(2) => Ok(Kind::Classed),
-        Ok(3) => Ok(Kind::Share),
-        Ok(_) => Err(LoadFault::Sheet(SheetFault::OtherKind, 0)),
-        Err(fault) => Err(LoadFault::Sheet(fault, 0)),
-    }
+    code_of(sheet)
+        .and_then(Kind::try_from)
+        .map_err(|fault| fault.at(0))
 }

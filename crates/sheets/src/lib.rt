@@ -8,3 +8,4 @@ pub mod kind;
 pub mod reader;
 mod record;
 pub mod sheet;
+pub mod tag;

@@ -10,6 +10,7 @@ use crate::job_record::{job_of, number_taken};
 use crate::kind::code_of;
 use crate::record::record_value;
 use crate::sheet::Sheet;
+use crate::tag::Tag;
 use std::marker::PhantomData;
 use weights::kind::OrderedWeight;
 
@@ -25,21 +26,16 @@ fn check_job<W: OrderedWeight>(
     ensures { (before : List (Job W)) → take (at - first) (drop first sheet.now) ≡ job_records W.OrderedWeight.encoding before → length before ≡ count → JobAnswer W.OrderedWeight.CODE W.OrderedWeight.WIDTH W.OrderedWeight.encoding before sheet.now at result }
 {
     let size = 6 + W::WIDTH;
-    let value = match record_value(&sheet[at..], 3, size, size) {
-        Ok(value) => value,
-        Err(fault) => return Err(LoadFault::Sheet(fault, at)),
-    };
-    let Ok(job) = job_of::<W>(value) else {
-        return Err(LoadFault::Sheet(SheetFault::NoWeight, at));
-    };
+    let value = record_value(&sheet[at..], Tag::Job, size, size).map_err(|fault| fault.at(at))?;
+    let job = job_of::<W>(value).map_err(|fault| SheetFault::from(fault).at(at))?;
     let taken = number_taken::<W>(&sheet[first..at], job.number);
-    match job.admission(taken, count) {
-        Err(fault) => Err(LoadFault::Table(fault, at)),
-        Ok(()) => Ok(at + 3 + value.len()),
-    }
+    job.admission(taken, count)
+        .map_err(|fault| LoadFault::Table(fault, at))?;
+    Ok(at + 3 + value.len())
 }
 
 // The job records from byte `first` to the end: how many there are, or the first fault.
+// A cursor and no iterator over parts of one size, since the next record begins where this one's own length says.
 fn check_jobs<W: OrderedWeight>(sheet: &[u8], first: usize) -> Result<usize, LoadFault>
     requires { first ≤ length sheet.now }
     ensures { MatchResult result (λ count. JobsRead W.OrderedWeight.CODE W.OrderedWeight.WIDTH W.OrderedWeight.encoding sheet.now first (length sheet.now) count) (λ fault. JobsRefused W.OrderedWeight.CODE W.OrderedWeight.WIDTH W.OrderedWeight.encoding sheet.now first fault) }
@@ -54,29 +50,22 @@ fn check_jobs<W: OrderedWeight>(sheet: &[u8], first: usize) -> Result<usize, Loa
 }
 
 // Reads a sheet for the kind W, or answers its first fault. No sheet has two readings.
+#[tactic(auto, using(crate::proofs::OneReading::one_reading))]
 pub fn read<W: OrderedWeight>(sheet: &[u8]) -> Result<Sheet<'_, W>, LoadFault>
     ensures value { MatchResult result (λ s. Accepted W.OrderedWeight.CODE W.OrderedWeight.WIDTH W.OrderedWeight.encoding sheet.now s.masks.now s.records.now s.count) (λ fault. Refused W.OrderedWeight.CODE W.OrderedWeight.WIDTH W.OrderedWeight.encoding sheet.now fault) }
     ensures alone { OneReading W.OrderedWeight.CODE W.OrderedWeight.WIDTH W.OrderedWeight.encoding }
 {
-    let code = match code_of(sheet) {
-        Ok(code) => code,
-        Err(fault) => return Err(LoadFault::Sheet(fault, 0)),
-    };
+    let code = code_of(sheet).map_err(|fault| fault.at(0))?;
     if code != W::CODE {
-        return Err(LoadFault::Sheet(SheetFault::OtherKind, 0));
+        return Err(SheetFault::OtherKind.at(0));
     }
-    let masks = match record_value(&sheet[4..], 2, 0, 1024) {
-        Ok(masks) => masks,
-        Err(fault) => return Err(LoadFault::Sheet(fault, 4)),
-    };
+    let masks = record_value(&sheet[4..], Tag::Calendar, 0, 1024).map_err(|fault| fault.at(4))?;
     let first = 7 + masks.len();
-    match check_jobs::<W>(sheet, first) {
-        Ok(count) => Ok(Sheet {
-            masks,
-            records: &sheet[first..],
-            count,
-            kind: PhantomData,
-        }),
-        Err(fault) => Err(fault),
-    }
+    let count = check_jobs::<W>(sheet, first)?;
+    Ok(Sheet {
+        masks,
+        records: &sheet[first..],
+        count,
+        kind: PhantomData,
+    })
 }

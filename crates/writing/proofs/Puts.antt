@@ -1,18 +1,14 @@
 -- Bytes put one after the other. Assumes nothing.
-use Rattle.std.proofs.Common.{◌≡◌, ℕ, ◌+◌, ◌-◌, ◌<◌, ◌≤◌, Bool, true, cond, eqb, List, [], ◌∷◌, ◌++◌, length, take, drop, set, sym, ap, ◌∙◌, add-one, arith}
-use borrow.Rule.Slice.PartMut.{put_mid}
-use Rattle.std.proofs.lemmas.List.{append_assoc, take-append-drop, take_at, drop_at, drop-drop, length-append, length-drop, length-take-le, set_split}
-use Rattle.std.proofs.lemmas.Bool.{eq-eqb}
-use Rattle.writing.specs.Puts.{Put}
+use Rattle.std.proofs.Common.{◌≡◌, ℕ, ◌+◌, ◌≤◌, List, [], ◌++◌, length, take, drop, refl, sym, subst, ap, ◌∙◌, arith}
+use Rattle.std.proofs.lemmas.List.{append_assoc, take-append-drop, take_at, drop_at, drop-drop, length-append, length-drop, length-take-le}
+use Rattle.writing.specs.declared.front.Front.{Front}
+use Rattle.writing.specs.Puts.{Put, Room, Adds}
 
-pub put_nothing : (at : ℕ) (out : List ℕ) → Put at [] out out at
+put_nothing : (at : ℕ) (out : List ℕ) → Put at [] out out at
 put_nothing at out = record { buffer = sym (take-append-drop at out); place = omega arith }
 
-pub put_one : (at b : ℕ) (out : List ℕ) → at < length out → Put at (b ∷ []) out (set out at b) (at + 1)
-put_one at b out h = record { buffer = set_split out at b h ∙ ap (λ k. take at out ++ b ∷ drop k out) (sym (add-one at)); place = omega arith }
-
 -- some bytes, and more behind them
-pub put_then : (at m n : ℕ) (xs ys a b c : List ℕ) → at ≤ length a → Put at xs a b m → Put m ys b c n → Put at (xs ++ ys) a c n
+put_then : (at m n : ℕ) (xs ys a b c : List ℕ) → at ≤ length a → Put at xs a b m → Put m ys b c n → Put at (xs ++ ys) a c n
 put_then at m n xs ys a b c h p q =
     let front = take at a ++ xs in
     let mid : b ≡ front ++ drop m a = p.buffer ∙ sym (append_assoc (take at a) xs (drop m a)) in
@@ -27,17 +23,42 @@ put_then at m n xs ys a b c h p q =
       place = q.place ∙ (ap (λ k. k + length ys) p.place ∙ (omega (arith, length-append xs ys)));
     }
 
--- a part of the buffer is lent for as many bytes as it has, and written over
-pub put_part : (at k width : ℕ) (out space bytes : List ℕ) (answer : Bool) → answer ≡ eqb (length (take (at + k - at) (drop at out))) width → space ≡ cond answer bytes (take (at + k - at) (drop at out))
-    → k ≡ width → length bytes ≡ width → at + k ≤ length out → Put at bytes out (put_mid at (at + k - at) out space) (at + k)
-put_part at k width out space bytes answer said leaves known sized room =
-    let size : at + k - at ≡ k = omega arith in
-    let left : length (drop at out) ≡ length out - at = length-drop at out in
-    let long : length (take (at + k - at) (drop at out)) ≡ at + k - at = length-take-le (at + k - at) (drop at out) (omega arith) in
-    let fits : answer ≡ true = said ∙ eq-eqb _ _ (omega arith) in
-    let same : space ≡ bytes = leaves ∙ ap (λ b. cond b bytes (take (at + k - at) (drop at out))) fits in
-    let rest : drop (at + k - at) (drop at out) ≡ drop (at + k) out = drop-drop (at + k - at) at out ∙ ap (λ n. drop n out) (omega arith) in
-    record {
-      buffer = ap (λ l. take at out ++ (l ++ drop (at + k - at) (drop at out))) same ∙ ap (λ l. take at out ++ (bytes ++ l)) rest;
-      place = omega arith;
-    }
+-- the same of a lent buffer that is written from its front on
+pub adds_nothing : (front : Front) → Room 0 front → Adds [] front front
+adds_nothing front room = record { room = room; same = refl; put = put_nothing front.len front.out.now }
+
+module _ (xs : List ℕ) (a b : Front) (p : Adds xs a b) where
+  -- the buffer keeps its length
+  adds_long : length b.out.now ≡ length a.out.now
+  adds_long =
+      let room = p.room in
+      let place = p.put.place in
+      let before = length-take-le a.len a.out.now (omega arith) in
+      let left = length-drop b.len a.out.now in
+      let parts : length b.out.now ≡ length (take a.len a.out.now) + (length xs + length (drop b.len a.out.now)) =
+      ap length p.put.buffer ∙ (length-append (take a.len a.out.now) (xs ++ drop b.len a.out.now) ∙ ap (λ n. length (take a.len a.out.now) + n) (length-append xs (drop b.len a.out.now))) in
+      omega arith
+
+  -- what is left of the room
+  pub room_left : (n : ℕ) → Room (length xs + n) a → Room n b
+  room_left n room =
+      let long = adds_long in
+      let place = p.put.place in
+      omega arith
+
+  pub adds_then : (ys : List ℕ) (c : Front) → Adds ys b c → Adds (xs ++ ys) a c
+  adds_then ys c q =
+      let long = adds_long in
+      let place = p.put.place in
+      let first = p.room in
+      let second = q.room in
+      let both = length-append xs ys in
+      record {
+        room = omega arith;
+        same = q.same ∙ p.same;
+        put = put_then a.len b.len c.len xs ys a.out.now b.out.now c.out.now (omega arith) p.put q.put;
+      }
+
+-- what the lender of a buffer holds at the end
+pub put_ends : (bytes before after : List ℕ) (at : ℕ) (front : Front) → Put at bytes before front.out.now front.len → front.out.now ≡ after → Put at bytes before after front.len
+put_ends bytes before after at front p e = subst (λ l. Put at bytes before l front.len) e p

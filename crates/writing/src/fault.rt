@@ -1,5 +1,6 @@
 // Why a sheet is not written.
 ghost use Rattle.std.specs.Prelude.{◌≡◌};
+ghost use Rattle.writing.specs.declared.fault.WriteFault.TheVariants.{Store};
 ghost use Rattle.writing.specs.Faults.{write_fault_number};
 
 use calls::terms::StoreFault;
@@ -10,6 +11,15 @@ pub enum WriteFault {
     Store(StoreFault),
     // The buffer is too short for the sheet.
     TooShort,
+}
+
+// What is wrong with the store, whole.
+impl From<StoreFault> for WriteFault {
+    ghost from_gives = { λ fault given. given ≡ Store fault };
+
+    fn from(fault: StoreFault) -> WriteFault {
+        Self::Store(fault)
+    }
 }
 
 impl WriteFault {

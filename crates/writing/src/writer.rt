@@ -9,11 +9,12 @@ ghost use Rattle.writing.specs.Readings.{ReadsBack, WrittenBack};
 ghost use Rattle.writing.specs.Written.{masks_of, written_sheet, Written};
 
 use crate::fault::WriteFault;
+use crate::front::Front;
 use crate::records::{put_calendar, put_jobs, put_kind};
 use calendars::calendar::Calendar;
 use jobs::terms::Row;
 use plan::Plan;
-use questions::order::store_fault;
+use questions::order::check_store;
 use weights::kind::OrderedWeight;
 
 // How many bytes the sheet has: the kind record, the calendar record and a record for each row.
@@ -24,7 +25,7 @@ fn sheet_length<W: OrderedWeight, C: Calendar>(rows: &[Row], calendar: &C) -> us
     7 + calendar.end() as usize + rows.len() * (9 + W::WIDTH)
 }
 
-// Puts the sheet at the front of a buffer that has room for it.
+// Puts the sheet at the front of a buffer that has room for it, and answers how many bytes it has.
 fn put_sheet<W: OrderedWeight, C: Calendar>(
     rows: &[Row],
     calendar: &C,
@@ -35,9 +36,11 @@ fn put_sheet<W: OrderedWeight, C: Calendar>(
     requires room { 7 + C.Calendar.end calendar.now + length rows.now * (9 + W.OrderedWeight.WIDTH) ≤ length out.old }
     ensures value { Put 0 (written_sheet W.OrderedWeight.CODE W.OrderedWeight.encoding (C.Calendar.end calendar.now) (C.Calendar.mask calendar.now) rows.now store.now) out.old out.new result }
 {
-    let masks = put_kind::<W>(out, 0);
-    let first = put_calendar(calendar, out, masks);
-    put_jobs(rows, store, out, first)
+    let mut front = Front { out, len: 0 };
+    put_kind::<W>(&mut front);
+    put_calendar(calendar, &mut front);
+    put_jobs(rows, store, &mut front);
+    front.len
 }
 
 // Writes the sheet of the plan's table under the calendar at the front of the buffer, the jobs in rank order with the store's weights,
@@ -55,9 +58,7 @@ pub fn write<W: OrderedWeight, C: Calendar>(
     ensures again { WrittenBack W.OrderedWeight.CODE W.OrderedWeight.WIDTH W.OrderedWeight.encoding W.OrderedWeight.no_lighter }
 {
     let rows = plan.rows();
-    if let Some(fault) = store_fault(rows, store) {
-        return Err(WriteFault::Store(fault));
-    }
+    check_store(rows, store)?;
     if out.len() < sheet_length::<W, C>(rows, calendar) {
         return Err(WriteFault::TooShort);
     }

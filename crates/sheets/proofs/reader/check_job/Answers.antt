@@ -1,25 +1,16 @@
-use Rattle.std.proofs.Common.{arith}
-use Rattle.sheets.proofs.Steps.{frame_refused, weight_refused, table_refused, job_read}
+use Rattle.std.proofs.Common.{arith, rules}
+use Rattle.sheets.proofs.Steps.{table_answered, job_read}
 use Rattle.sheets.proofs.reader.check_job.Goals as goal
 
-pub returns-in-Err : goal.returns-in-Err
-returns-in-Err g c before e few =
+pub returns : goal.returns
+returns g c before e few =
     let w = g.W.OrderedWeight in
-    frame_refused w.CODE w.WIDTH w.encoding before c.args.sheet.now c.args.at c.WIDTH-size.result c.WIDTH-size.ensures c.in-Err.fault c.in-Err.ensures
+    job_read w.CODE w.WIDTH w.encoding before c.args.sheet.now c.args.at c.WIDTH-size.result c.WIDTH-size.ensures c.in_ok-value.value.now (search rules)
+    c.in_ok-job.job (search rules) c.args.count few c.number_taken-taken.result (c.number_taken-taken.ensures before e) (omega arith) (search rules)
 
-pub returns-in_default : goal.returns-in_default
-returns-in_default g c before e few =
+pub returns-in_err-map_err : goal.returns-in_err-map_err
+returns-in_err-map_err g c before e few =
     let w = g.W.OrderedWeight in
-    weight_refused w.CODE w.WIDTH w.encoding before c.args.sheet.now c.args.at c.WIDTH-size.result c.WIDTH-size.ensures _ c.in-Ok.ensures c.in_default.ensures
-
-pub returns-in-Err-admission : goal.returns-in-Err-admission
-returns-in-Err-admission g c before e few =
-    let w = g.W.OrderedWeight in
-    table_refused w.CODE w.WIDTH w.encoding before c.args.sheet.now c.args.at c.WIDTH-size.result c.WIDTH-size.ensures _ c.in-Ok.ensures
-    c.in-Ok-job_of.job c.in-Ok-job_of.ensures c.args.count few c.number_taken-taken.result (c.number_taken-taken.ensures before e) c.in-Err-admission.fault c.in-Err-admission.ensures
-
-pub returns-in-Ok-admission : goal.returns-in-Ok-admission
-returns-in-Ok-admission g c before e few =
-    let w = g.W.OrderedWeight in
-    job_read w.CODE w.WIDTH w.encoding before c.args.sheet.now c.args.at c.WIDTH-size.result c.WIDTH-size.ensures _ c.in-Ok.ensures
-    c.in-Ok-job_of.job c.in-Ok-job_of.ensures c.args.count few c.number_taken-taken.result (c.number_taken-taken.ensures before e) (omega arith) c.in-Ok-admission.ensures
+    table_answered w.CODE w.WIDTH w.encoding before c.args.sheet.now c.args.at c.WIDTH-size.result c.WIDTH-size.ensures c.in_ok-value.value.now (search rules)
+    c.in_ok-job.job (search rules) c.args.count few c.number_taken-taken.result (c.number_taken-taken.ensures before e)
+    _ c.admission.result c.in_err-map_err.field-0.0 c.from_residual-in_err-map_err.result c.admission.ensures (search rules) (search rules)

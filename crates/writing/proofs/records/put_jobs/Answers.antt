@@ -1,51 +1,29 @@
-use Rattle.std.proofs.Common.{ℕ, List, sym, ap, subst, arith}
-use Rattle.std.proofs.lemmas.List.{take_all}
-use Rattle.calls.specs.Moments.{jobs_in}
-use Rattle.placing.specs.Placing.{row as row_at}
-use Rattle.placing.specs.Promise.{job_of}
-use Rattle.sheets.specs.Format.{job_records, record_bytes, job_value}
-use Rattle.writing.specs.Puts.{Put}
-use Rattle.writing.proofs.Jobs.{front, front_long, front_room, front_more, jobs_in_length}
-use Rattle.writing.proofs.Puts.{put_nothing, put_then}
+use Rattle.std.proofs.Common.{inl, inr, ⊎_elim}
+use Rattle.std.specs.Iterator.Adapters.{zip_first, zip_second}
+use Rattle.std.specs.Slice.Iter.{iter_rest}
+use Rattle.writing.proofs.Jobs.{next, next_room, one_more, all_put}
 use Rattle.writing.proofs.records.put_jobs.Goals as goal
 
-pub put_job-next-requires : goal.put_job-next-requires
-put_job-next-requires g c =
+pub put_job-requires : goal.put_job-requires
+put_job-requires g c =
     let w = g.W.OrderedWeight in
-    let sized = g.met.W.OrderedWeight.sized in
-    let rows = c.args.rows.now in
-    let store = c.args.store.now in
-    let i = c.loop-rank.rank in
-    let long = front_long w.encoding w.WIDTH sized rows store c.requires.stored i (omega arith) in
-    let more = front_room w.encoding w.WIDTH sized rows store c.requires.stored i c.loop-rank-test.true in
-    let place = c.loop-rank.invariant.place in
-    let room = c.requires.room in
-    record { room = omega arith }
+    let rs = iter_rest (zip_first c.next.new.self) in
+    let ws = iter_rest (zip_second c.next.new.self) in
+    let left = next w.encoding w.WIDTH g.met.W.OrderedWeight.sized c.args.rows.now c.args.store.now c.args.front.now c.loop-row.front c.in-Some.row.now c.in-Some.weight.now rs ws _ _ c.in-Some.ensures.steps.0 c.in-Some.ensures.steps.1 c.loop-row.invariant.2 in
+    record { room = next_room w.encoding w.WIDTH g.met.W.OrderedWeight.sized c.args.rows.now c.args.store.now c.args.front.now c.loop-row.front c.in-Some.row.now c.in-Some.weight.now rs ws c.requires.stored c.requires.room left }
 
-pub loop-rank-init : goal.loop-rank-init
-loop-rank-init g c = put_nothing c.args.at c.args.out.now
-
-pub loop-rank-preserved : goal.loop-rank-preserved
-loop-rank-preserved g c =
+pub loop-row-preserved : goal.loop-row-preserved
+loop-row-preserved g c =
     let w = g.W.OrderedWeight in
-    let sized = g.met.W.OrderedWeight.sized in
-    let rows = c.args.rows.now in
-    let store = c.args.store.now in
-    let i = c.loop-rank.rank in
-    let out = c.put_job-next.new.out in
-    let next = c.put_job-next.result in
-    subst (λ (l : List ℕ). Put c.args.at l c.args.out.now out next)
-    (sym (front_more w.encoding w.WIDTH sized rows store c.requires.stored i c.loop-rank-test.true c.index-store-rank.result c.index-store-rank.is))
-    (put_then c.args.at c.loop-rank.next next (front w.encoding w.WIDTH sized rows store i) (record_bytes 3 (job_value w.encoding (job_of (row_at rows i) c.index-store-rank.result))) c.args.out.now c.loop-rank.out out
-    (let h = c.requires.room in omega arith) c.loop-rank.invariant c.put_job-next.ensures.value)
+    let rs = iter_rest (zip_first c.next.new.self) in
+    let ws = iter_rest (zip_second c.next.new.self) in
+    let left = next w.encoding w.WIDTH g.met.W.OrderedWeight.sized c.args.rows.now c.args.store.now c.args.front.now c.loop-row.front c.in-Some.row.now c.in-Some.weight.now rs ws _ _ c.in-Some.ensures.steps.0 c.in-Some.ensures.steps.1 c.loop-row.invariant.2 in
+    ((tt, tt), tt, one_more w.encoding w.WIDTH g.met.W.OrderedWeight.sized c.args.rows.now c.args.store.now c.args.front.now c.loop-row.front c.in-Some.row.now c.in-Some.weight.now rs ws c.put_job.new.front left c.put_job.ensures.value)
 
 pub returns : goal.returns
 returns g c =
     let w = g.W.OrderedWeight in
-    let rows = c.args.rows.now in
-    let store = c.args.store.now in
-    let jobs = jobs_in rows store in
-    let long = jobs_in_length rows store c.requires.stored in
     record {
-      value = subst (λ l. Put c.args.at l c.args.out.now c.loop-rank.out c.loop-rank.next) (ap (job_records w.encoding) (take_all c.loop-rank.rank jobs (omega arith))) c.loop-rank.invariant;
+      value = all_put w.encoding w.WIDTH g.met.W.OrderedWeight.sized c.args.rows.now c.args.store.now c.args.front.now c.loop-row.front (iter_rest (zip_first c.loop-row.row-iterator)) (iter_rest (zip_second c.loop-row.row-iterator))
+          (⊎_elim (λ x. inl x.1.0) (λ x. inr x.1.0) c.in-None.ensures.steps) c.loop-row.invariant.2;
     }

@@ -17,8 +17,8 @@ again g =
     let w = g.W.OrderedWeight in
     written_back w.CODE w.WIDTH w.encoding w.no_lighter (record { total = g.met.W.OrderedWeight.total; trans = g.met.W.OrderedWeight.transitive })
 
-pub returns-in-Some : goal.returns-in-Some
-returns-in-Some g c = record { cases = search rules; refused = search rules; reads = tt; again = again g }
+pub returns-in_err-check_store-clause-again : goal.returns-in_err-check_store-clause-again
+returns-in_err-check_store-clause-again g c = again g
 
 pub returns-then-out-sheet_length : goal.returns-then-out-sheet_length
 returns-then-out-sheet_length g c =
@@ -27,7 +27,7 @@ returns-then-out-sheet_length g c =
     let rows = rows_in c.args.plan.now in
     let store = c.args.store.now in
     let same = c.rows-rows.ensures.value in
-    let good : StoreGood (heavier_then_lower w.no_lighter) rows store = subst (λ (rs : List Row). StoreGood (heavier_then_lower w.no_lighter) rs store) same c.in_default.ensures.cases in
+    let good : StoreGood (heavier_then_lower w.no_lighter) rows store = subst (λ (rs : List Row). StoreGood (heavier_then_lower w.no_lighter) rs store) same c.in_ok-check_store.ensures.cases in
     let long = sheet_long w.CODE w.WIDTH w.encoding g.met.W.OrderedWeight.sized (cal.end c.args.calendar.now) (cal.mask c.args.calendar.now) rows store good.1.stored in
     let count : c.sheet_length.result ≡ 7 + cal.end c.args.calendar.now + length rows * (9 + w.WIDTH) =
     subst (λ (rs : List Row). c.sheet_length.result ≡ 7 + cal.end c.args.calendar.now + length rs * (9 + w.WIDTH)) same c.sheet_length.ensures.value in
@@ -45,7 +45,7 @@ returns g c =
     let out = c.put_sheet.new.out in
     let n = c.put_sheet.result in
     let same = c.rows-rows.ensures.value in
-    let good : StoreGood (heavier_then_lower w.no_lighter) rows store = subst (λ (rs : List Row). StoreGood (heavier_then_lower w.no_lighter) rs store) same c.in_default.ensures.cases in
+    let good : StoreGood (heavier_then_lower w.no_lighter) rows store = subst (λ (rs : List Row). StoreGood (heavier_then_lower w.no_lighter) rs store) same c.in_ok-check_store.ensures.cases in
     let put : Put 0 (written_sheet w.CODE w.encoding end mask rows store) c.args.out.now out n =
     subst (λ (rs : List Row). Put 0 (written_sheet w.CODE w.encoding end mask rs store) c.args.out.now out n) same c.put_sheet.ensures.value in
     let front = put_front (written_sheet w.CODE w.encoding end mask rows store) c.args.out.now out n put in
