@@ -1,10 +1,8 @@
-use Rattle.std.proofs.Common.{◌<◌, length, is_some, refl, ap, ◌∙◌, subst, rules}
+use Rattle.std.proofs.Common.{◌<◌, length, is_some, ap, ◌∙◌, rules}
 use Rattle.std.proofs.lemmas.List.{places}
-use Rattle.jobs.specs.declared.terms.Standing.TheVariants.{Absent}
-use Rattle.placing.specs.Plan.{Stands}
 use Rattle.plan.specs.Tables.{rows_of}
 use Rattle.plan.proofs.Rows.{distinct_apart}
-use Rattle.plan.proofs.Standings.{changed_new, flags_compared}
+use Rattle.plan.proofs.Standings.{flags_compared}
 use Rattle.plan.proofs.others.changed.Goals as goal
 
 pub returns-in-Some : goal.returns-in-Some
@@ -20,11 +18,3 @@ returns-in-Some c =
           c.is_some.result c.is_some-in-Some.result
           (c.is_some.ensures ∙ ap (λ r. is_some r.seat) c.row.ensures.value) (c.is_some-in-Some.ensures ∙ ap (λ r. is_some r.seat) c.row-row.ensures.value);
     }
-
-pub returns-in-None : goal.returns-in-None
-returns-in-None c =
-    let before = rows_of c.args.before.now in
-    let after = rows_of c.args.after.now in
-    let l : c.args.rank < length after = search (rules, places) in
-    let gone = subst (λ r. Stands before r.number Absent) c.row-row.ensures.value c.in-None.ensures.cases in
-    record { answers = (λ _. changed_new before after (distinct_apart before c.args.before.now.distinct) (distinct_apart after c.args.after.now.distinct) c.args.rank l gone, λ _. refl) }

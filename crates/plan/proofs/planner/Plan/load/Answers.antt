@@ -1,19 +1,11 @@
-use Rattle.std.proofs.Common.{◌≡◌, true, false, Err, refl, ap, ◌∙◌, arith}
+use Rattle.std.proofs.Common.{true, false, ap, ◌∙◌, arith}
 use Rattle.std.specs.Result.{is_ok}
-use Rattle.std.proofs.lemmas.Result.{MatchResult-at_ok, err_from_is_err_and}
-use Rattle.plan.specs.declared.refusal.LoadRefusal.TheVariants.{Sheet}
+use Rattle.std.proofs.lemmas.Result.{MatchResult-at_ok}
 use Rattle.calls.specs.Moments.{at}
 use Rattle.plan.specs.Plans.{rows_in}
 use Rattle.plan.proofs.Loads.{loaded}
 use Rattle.plan.proofs.planner.Plan.load.Goals as goal
 use Rattle.plan.proofs.planner.Plan.load.Goals.{then-carried_on, else-carried_on}
-
-pub returns-in_err-accepted : goal.returns-in_err-accepted
-returns-in_err-accepted g c =
-    let out = err_from_is_err_and c.from_residual.result c.from_residual.ensures.1 in
-    let fault = c.in_err-accepted.field-0.0 in
-    let e : c.from_residual.result ≡ Err (Sheet fault) = out.1 ∙ ap Err out.2 in
-    rw e (record { cases = (omega arith, c.in_err-accepted.ensures.value); refused = (refl, refl) })
 
 pub returns : goal.returns
 returns g c =

@@ -6,17 +6,8 @@ use Rattle.placing.specs.Plan.{Drawn}
 use Rattle.drawing.proofs.Links.{seated_table}
 use Rattle.plan.specs.Tables.{rows_of}
 use Rattle.plan.proofs.Rows.{counted}
-use Rattle.plan.proofs.Seated.{can_draw, draws, is_drawn}
+use Rattle.plan.proofs.Seated.{can_draw, draws}
 use Rattle.plan.proofs.table.Table.draw_with.Goals as goal
-
-pub unwrap-requires : goal.unwrap-requires
-unwrap-requires g c =
-    let table = c.args.self.now in
-    let rows = rows_of table in
-    let mask = g.C.Calendar.mask c.args.calendar.now in
-    let few : length rows ≤ 256 = (let l = counted table in let f = table.few in omega arith) in
-    is_drawn mask rows c.rows.result.now c.args.seats.now c.draw.new.seats (is_ok c.draw.result) c.rows.ensures.value
-    (can_draw rows few table.distinct c.requires.windows) (search (rules, places)) c.draw.ensures.answers
 
 pub returns : goal.returns
 returns g c =
