@@ -6,7 +6,7 @@ use Rattle.jobs.specs.declared.terms.Row.{Row}
 use Rattle.jobs.specs.declared.terms.Seat.{Seat}
 use Rattle.placing.specs.Placing.{row}
 use Rattle.placing.specs.Plan.{Stretch}
-use Rattle.text.specs.Printing.{dropped_line, LineBy, LineOf, Lines, PrintedOnce}
+use Rattle.text.specs.Printing.{LineBy, LineOf, Lines, PrintedOnce}
 
 module _ (rows : List Row) where
   pub lines_none : Lines rows 0 []
@@ -35,7 +35,11 @@ module _ (rows : List Row) where
   line_once i (Some p) line other a b = a ∙ sym b
   line_once i None line other a b =
       let e = stretch_once i a.0 a.1 b.0 b.1 a.2 b.2 in
-      a.3 ∙ ap (λ k. dropped_line (row rows i).number k a.1) e.0 ∙ ap (λ k. dropped_line (row rows i).number b.0 k) e.1 ∙ sym b.3
+      let first = e.0 in
+      let last = e.1 in
+      let this = a.3 in
+      let that = b.3 in
+      cc
 
   pub lines_once : (n : ℕ) (text other : List ℕ) → Lines rows n text → Lines rows n other → text ≡ other
   lines_once n text other a b =
