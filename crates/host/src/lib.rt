@@ -20,9 +20,9 @@ fn text_as(kind: Kind, sheet: &[u8], out: &mut [u8]) -> Result<SheetText, Buffer
     ensures { (refused : Bool) × ((text : List ℕ) × TextAs kind sheet.now refused text × Handed refused text out.old out.new result) }
 {
     match kind {
-        Kind::Points => text_with(Points::new(1).unwrap(), sheet, out),
-        Kind::Classed => text_with(Classed::new(0, 1).unwrap(), sheet, out),
-        Kind::Share => text_with(Share::new(1, 1).unwrap(), sheet, out),
+        Kind::Points => text_with::<Points>(sheet, out),
+        Kind::Classed => text_with::<Classed>(sheet, out),
+        Kind::Share => text_with::<Share>(sheet, out),
     }
 }
 

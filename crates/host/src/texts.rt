@@ -34,16 +34,15 @@ fn plan_text(plan: &Plan, out: &mut [u8]) -> Result<SheetText, BufferFault>
 }
 
 // The text of a sheet of this kind. The weight that the store begins with shows nowhere.
-pub(crate) fn text_with<W: OrderedWeight>(
-    any: W,
+pub(crate) fn text_with<W: OrderedWeight + Default>(
     sheet: &[u8],
     out: &mut [u8],
 ) -> Result<SheetText, BufferFault>
     requires { 256 * type_size W.row < 2 ^ 63 }
-    ensures { (refused : Bool) × ((text : List ℕ) × TextOf W.OrderedWeight.code W.OrderedWeight.width W.OrderedWeight.encoding W.OrderedWeight.no_lighter sheet.now refused text × Handed refused text out.old out.new result) }
+    ensures { (refused : Bool) × ((text : List ℕ) × TextOf W.OrderedWeight.CODE W.OrderedWeight.WIDTH W.OrderedWeight.encoding W.OrderedWeight.no_lighter sheet.now refused text × Handed refused text out.old out.new result) }
 {
     let mut plan = Plan::open();
-    let mut store = [any; 256];
+    let mut store = [W::default(); 256];
     match load::<W>(&mut plan, &mut store, sheet, false) {
         Ok(_) => plan_text(&plan, out),
         Err(LoadRefusal::Sheet(fault)) => refusal_text(fault, out),
@@ -53,5 +52,5 @@ pub(crate) fn text_with<W: OrderedWeight>(
 
 // No sheet has two texts for this kind. Computes nothing.
 pub(crate) fn texts_are_alone<W: OrderedWeight>()
-    ensures { TextOnce W.OrderedWeight.code W.OrderedWeight.width W.OrderedWeight.encoding W.OrderedWeight.no_lighter }
+    ensures { TextOnce W.OrderedWeight.CODE W.OrderedWeight.WIDTH W.OrderedWeight.encoding W.OrderedWeight.no_lighter }
 {}

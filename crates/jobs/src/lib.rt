@@ -3,4 +3,5 @@
 
 pub mod admission;
 pub mod list;
+pub mod rows;
 pub mod terms;
