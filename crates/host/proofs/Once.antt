@@ -14,17 +14,16 @@ use Rattle.sheets.specs.declared.fault.LoadFault.TheVariants.{Sheet, Table}
 use Rattle.sheets.specs.declared.fault.SheetFault.TheVariants.{OtherKind}
 use Rattle.sheets.specs.declared.kind.Kind.{Kind}
 use Rattle.sheets.specs.declared.kind.Kind.TheVariants.{Points, Classed, Share}
-use Rattle.sheets.specs.Faults.{load_fault_number, load_fault_byte}
 use Rattle.sheets.specs.Format.{kind_record, KindRefused}
 use Rattle.sheets.specs.Kinds.{kind_code, Offered}
 use Rattle.sheets.specs.Reading.{OneReading}
 use Rattle.sheets.proofs.OneCause.{frame_right, cause_alone}
-use Rattle.text.specs.Printing.{Printed, refusal_line}
+use Rattle.text.specs.Printing.{Printed}
 use Rattle.text.proofs.Lines.{printed_once}
 use Rattle.host.specs.Texts.{RefusalText, PlanText, TextOnce, TextAs, SheetTextOnce}
 
 refusal_once : (f g : LoadFault) (text text' : List ℕ) → f ≡ g → RefusalText f text → RefusalText g text' → text ≡ text'
-refusal_once f g text text' e a b = a ∙ ap (λ h. refusal_line (load_fault_number h) (load_fault_byte h)) e ∙ sym b
+refusal_once f g text text' e a b = cc
 
 module _ {W : Type 0} (code width : ℕ) (encoding : W → List ℕ) (no_lighter : W → W → Bool) (once : OneReading code width encoding) (weighs : Weighs no_lighter) where
   -- the reading settles masks and jobs, these the rows, and these the text
@@ -43,20 +42,10 @@ module _ {W : Type 0} (code width : ℕ) (encoding : W → List ℕ) (no_lighter
   text_once sheet true true text text' a b = (refl, refusal_once a.0 b.0 text text' ((once sheet).refused a.0 b.0 a.1 b.1) a.2 b.2)
 
 same_kind : (k l : Kind) → kind_code k ≡ kind_code l → k ≡ l
-same_kind Points Points e = refl
-same_kind Points Classed e = absurd (omega arith)
-same_kind Points Share e = absurd (omega arith)
-same_kind Classed Points e = absurd (omega arith)
-same_kind Classed Classed e = refl
-same_kind Classed Share e = absurd (omega arith)
-same_kind Share Points e = absurd (omega arith)
-same_kind Share Classed e = absurd (omega arith)
-same_kind Share Share e = refl
+same_kind k l e = grind arith
 
 offered : (k : Kind) → Offered (kind_code k)
-offered Points = (lit≤ tt, lit≤ tt)
-offered Classed = (lit≤ tt, lit≤ tt)
-offered Share = (lit≤ tt, lit≤ tt)
+offered k = grind arith
 
 module _ (sheet : List ℕ) where
   kind_refused_once : (f g : LoadFault) → KindRefused Offered sheet f → KindRefused Offered sheet g → f ≡ g

@@ -5,7 +5,6 @@ use Rattle.std.proofs.lemmas.List.{flat_map_more, length_push, get_or_append_lef
 use Rattle.jobs.specs.declared.terms.Row.{Row}
 use Rattle.jobs.specs.declared.terms.Seat.{Seat}
 use Rattle.placing.specs.Placing.{row}
-use Rattle.placing.specs.Plan.{Stretch}
 use Rattle.text.specs.Printing.{LineBy, LineOf, Lines, PrintedOnce}
 
 module _ (rows : List Row) where
@@ -24,21 +23,16 @@ module _ (rows : List Row) where
         bytes = ap (λ t. t ++ line) l.bytes ∙ flat_map_more (λ x. x) [] l.lines line;
       }
 
-  -- a row has one stretch
-  stretch_once : (i lo hi from to : ℕ) → Stretch rows i lo hi → Stretch rows i from to → (lo ≡ from) × (hi ≡ to)
-  stretch_once i lo hi from to s t =
-      let a = s.least from to t.around.0 t.around.1 t.closed in
-      let b = t.least lo hi s.around.0 s.around.1 s.closed in
-      (omega arith, omega arith)
-
+  -- a row has one stretch, and so one line
   line_once : (i : ℕ) (seat : Option Seat) (line other : List ℕ) → LineBy rows i seat line → LineBy rows i seat other → line ≡ other
   line_once i (Some p) line other a b = a ∙ sym b
   line_once i None line other a b =
-      let e = stretch_once i a.0 a.1 b.0 b.1 a.2 b.2 in
-      let first = e.0 in
-      let last = e.1 in
-      let this = a.3 in
-      let that = b.3 in
+      let this = a.2.least b.0 b.1 b.2.around.0 b.2.around.1 b.2.closed in
+      let that = b.2.least a.0 a.1 a.2.around.0 a.2.around.1 a.2.closed in
+      let first : a.0 ≡ b.0 = omega arith in
+      let last : a.1 ≡ b.1 = omega arith in
+      let line = a.3 in
+      let other = b.3 in
       cc
 
   pub lines_once : (n : ℕ) (text other : List ℕ) → Lines rows n text → Lines rows n other → text ≡ other

@@ -23,14 +23,15 @@ fn push_row<const CAP: usize>(text: &mut ArrayString<CAP>, rows: &[Row], rank: u
     match row.seat {
         Some(seat) => push_line(text, row.number, " ", seat.slot, u16::from(seat.link)),
         None => {
-            if let Some((from, to)) = stretch_at(rows, rank) {
-                push_line(text, row.number, " - ", from, to);
-            }
+            let Some((from, to)) = stretch_at(rows, rank) else {
+                unreachable!();
+            };
+            push_line(text, row.number, " - ", from, to);
         }
     }
 }
 
-// Appends the line of each row to an empty text, in rank order.
+// Appends the line of each row to an empty text, in rank order. The loop goes over ranks, since a dropped row's line asks all the rows.
 #[tactic(auto, using(crate::proofs::Lines::lines_none, crate::proofs::Lines::lines_more))]
 fn push_rows<const CAP: usize>(text: &mut ArrayString<CAP>, rows: &[Row])
     requires { (text.old.bytes ≡ []) × (20 * length rows.now ≤ CAP) }
