@@ -3,7 +3,6 @@
 
 ghost use Rattle.std.specs.Prelude.{◌≡◌, ℕ, ◌≤◌, Bool, List, IfOk};
 ghost use Rattle.host.specs.Texts.{TextAs, SheetText as TextFor, SheetTextOnce, Handed, Answered};
-ghost use Rattle.sheets.specs.declared.kind.Kind.TheVariants.{Points as AsPoints, Classed as AsClassed, Share as AsShare};
 
 use crate::terms::SheetText;
 use crate::texts::{refusal_text, text_with, texts_are_alone};
@@ -16,51 +15,14 @@ use text::BufferFault;
 pub mod terms;
 mod texts;
 
-// The text of a sheet of points. The weight that the store begins with shows nowhere.
-fn points_text(sheet: &[u8], out: &mut [u8]) -> Result<SheetText, BufferFault>
-    ensures cases { (refused : Bool) × ((text : List ℕ) × TextAs AsPoints sheet.now refused text × Handed refused text out.old out.new result) }
-    ensures short { IfOk result (λ s. s.length ≤ 5120) }
-{
-    let Ok(any) = Points::new(1) else {
-        return Err(BufferFault::TooShort);
-    };
-    let mut store = [any; 256];
-    text_with(sheet, &mut store, out)
-}
-
-// The text of a sheet of classed weights.
-fn classed_text(sheet: &[u8], out: &mut [u8]) -> Result<SheetText, BufferFault>
-    ensures cases { (refused : Bool) × ((text : List ℕ) × TextAs AsClassed sheet.now refused text × Handed refused text out.old out.new result) }
-    ensures short { IfOk result (λ s. s.length ≤ 5120) }
-{
-    let Ok(any) = Classed::new(0, 1) else {
-        return Err(BufferFault::TooShort);
-    };
-    let mut store = [any; 256];
-    text_with(sheet, &mut store, out)
-}
-
-// The text of a sheet of shares.
-fn share_text(sheet: &[u8], out: &mut [u8]) -> Result<SheetText, BufferFault>
-    ensures cases { (refused : Bool) × ((text : List ℕ) × TextAs AsShare sheet.now refused text × Handed refused text out.old out.new result) }
-    ensures short { IfOk result (λ s. s.length ≤ 5120) }
-{
-    let Ok(any) = Share::new(1, 1) else {
-        return Err(BufferFault::TooShort);
-    };
-    let mut store = [any; 256];
-    text_with(sheet, &mut store, out)
-}
-
 // The text of a sheet of this kind.
 fn text_as(kind: Kind, sheet: &[u8], out: &mut [u8]) -> Result<SheetText, BufferFault>
-    ensures cases { (refused : Bool) × ((text : List ℕ) × TextAs kind sheet.now refused text × Handed refused text out.old out.new result) }
-    ensures short { IfOk result (λ s. s.length ≤ 5120) }
+    ensures { (refused : Bool) × ((text : List ℕ) × TextAs kind sheet.now refused text × Handed refused text out.old out.new result) }
 {
     match kind {
-        Kind::Points => points_text(sheet, out),
-        Kind::Classed => classed_text(sheet, out),
-        Kind::Share => share_text(sheet, out),
+        Kind::Points => text_with::<Points>(sheet, out),
+        Kind::Classed => text_with::<Classed>(sheet, out),
+        Kind::Share => text_with::<Share>(sheet, out),
     }
 }
 

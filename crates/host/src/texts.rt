@@ -1,6 +1,8 @@
 // The text of a sheet for one kind of weight.
-ghost use Rattle.std.specs.Prelude.{ℕ, ◌≤◌, Bool, true, List, length, IfOk};
-ghost use Rattle.text.specs.Putting.{Delivered};
+ghost use Rattle.std.specs.Prelude.{ℕ, ◌*◌, ◌^◌, ◌<◌, Bool, true, false, List};
+ghost use Rattle.std.specs.Mem.{type_size};
+ghost use Rattle.plan.specs.Plans.{rows_in};
+ghost use Rattle.text.specs.Printing.{Printed};
 ghost use Rattle.host.specs.Texts.{RefusalText, TextOf, TextOnce, Handed};
 
 use crate::terms::SheetText;
@@ -9,41 +11,42 @@ use sheets::fault::LoadFault;
 use text::{BufferFault, print, print_refusal};
 use weights::kind::OrderedWeight;
 
-// What is told of a text that was printed, or that did not fit.
-fn told(printed: Result<usize, BufferFault>, refused: bool) -> Result<SheetText, BufferFault>
-    ensures value { (text before after : List ℕ) → Delivered text before after printed → Handed refused text before after result }
-    ensures short { (most : ℕ) → IfOk printed (λ n. n ≤ most) → IfOk result (λ s. s.length ≤ most) }
-{
-    match printed {
-        Ok(length) => Ok(SheetText { length, refused }),
-        Err(fault) => Err(fault),
-    }
-}
-
 // The line of a refusal.
 pub(crate) fn refusal_text(fault: LoadFault, out: &mut [u8]) -> Result<SheetText, BufferFault>
-    ensures cases { (text : List ℕ) × RefusalText fault text × Handed true text out.old out.new result }
-    ensures short { IfOk result (λ s. s.length ≤ 5120) }
+    ensures { (text : List ℕ) × RefusalText fault text × Handed true text out.old out.new result }
 {
-    told(print_refusal(fault.number(), fault.byte(), out), true)
+    let length = print_refusal(fault.number(), fault.byte(), out)?;
+    Ok(SheetText {
+        length,
+        refused: true,
+    })
 }
 
-// The text of a sheet of this kind, with a lent weight store of 256 entries.
-pub(crate) fn text_with<W: OrderedWeight>(
+// The text of a plan.
+fn plan_text(plan: &Plan, out: &mut [u8]) -> Result<SheetText, BufferFault>
+    ensures { (text : List ℕ) × Printed (rows_in plan.now) text × Handed false text out.old out.new result }
+{
+    let length = print(plan, out)?;
+    Ok(SheetText {
+        length,
+        refused: false,
+    })
+}
+
+// The text of a sheet of this kind. The weight that the store begins with shows nowhere.
+pub(crate) fn text_with<W: OrderedWeight + Default>(
     sheet: &[u8],
-    store: &mut [W],
     out: &mut [u8],
 ) -> Result<SheetText, BufferFault>
-    requires { 256 ≤ length store.old }
-    ensures cases { (refused : Bool) × ((text : List ℕ) × TextOf W.OrderedWeight.CODE W.OrderedWeight.WIDTH W.OrderedWeight.encoding W.OrderedWeight.no_lighter sheet.now refused text × Handed refused text out.old out.new result) }
-    ensures short { IfOk result (λ s. s.length ≤ 5120) }
+    requires { 256 * type_size W.row < 2 ^ 63 }
+    ensures { (refused : Bool) × ((text : List ℕ) × TextOf W.OrderedWeight.CODE W.OrderedWeight.WIDTH W.OrderedWeight.encoding W.OrderedWeight.no_lighter sheet.now refused text × Handed refused text out.old out.new result) }
 {
     let mut plan = Plan::open();
-    match load::<W>(&mut plan, store, sheet, false) {
-        Ok(_) => told(print(&plan, out), false),
+    let mut store = [W::default(); 256];
+    match load::<W>(&mut plan, &mut store, sheet, false) {
+        Ok(_) => plan_text(&plan, out),
         Err(LoadRefusal::Sheet(fault)) => refusal_text(fault, out),
-        // The store is long enough.
-        Err(LoadRefusal::StoreTooShort) => Err(BufferFault::TooShort),
+        Err(LoadRefusal::StoreTooShort) => unreachable!(),
     }
 }
 

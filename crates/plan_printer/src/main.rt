@@ -4,7 +4,7 @@
 ghost use Rattle.std.specs.Prelude.{◌≡◌, ◌≤◌, length, IfOk};
 ghost use Rattle.host.specs.Texts.{SheetText as TextFor};
 
-use anyhow::anyhow;
+use anyhow::ensure;
 use host::sheet_text;
 use kinds::classed::Classed;
 use kinds::points::Points;
@@ -44,23 +44,17 @@ fn printed(heap: Global, sheet: &[u8]) -> anyhow::Result<(Vec<u8>, bool)>
     ensures { IfOk result (λ p. TextFor sheet.now p.1 p.0.items) }
 {
     let mut text = vec![in heap; 0u8; 5120]?;
-    match sheet_text(sheet, text.as_mut_slice()) {
-        Ok(told) => {
-            text.truncate(told.length);
-            Ok((text, told.refused))
-        }
-        Err(_) => Err(anyhow!("the text is too long")),
-    }
+    let told = sheet_text(sheet, text.as_mut_slice())?;
+    text.truncate(told.length);
+    Ok((text, told.refused))
 }
 
 // The error ends the program with status 1.
 fn main(rt: HostRuntime) -> anyhow::Result<()> {
     let mut buffer = vec![in rt.alloc(); 0u8; widest_front()]?;
     let len = read_front(&mut rt.stdin(), buffer.as_mut_slice())?;
-    let (text, refused) = printed(rt.alloc(), &buffer[0..len])?;
+    let (text, refused) = printed(rt.alloc(), &buffer[..len])?;
     rt.stdout().write_all(text.as_slice())?;
-    if refused {
-        return Err(anyhow!("refused"));
-    }
+    ensure!(!refused, "refused");
     Ok(())
 }

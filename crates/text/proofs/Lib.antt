@@ -1,3 +1,1 @@
-pub mod Decimals
 pub mod Lines
-pub mod Pieces

@@ -1,42 +1,45 @@
 // The printed plan and the refusal line. Each is made aside, and then handed over whole or not at all.
-ghost use Rattle.std.specs.Prelude.{ℕ, ◌+◌, ◌*◌, ◌<◌, ◌≤◌, List, length, take, IfOk};
+ghost use Rattle.std.specs.Prelude.{ℕ, ◌≡◌, ◌+◌, ◌*◌, ◌<◌, ◌≤◌, List, [], ◌++◌, length, IfOk};
+ghost use Rattle.arrayvec.specs.ArrayString.{array_string_len};
 ghost use Rattle.plan.specs.Plans.{rows_in};
 ghost use Rattle.text.specs.Printing.{LineOf, Printed, PrintedOnce, refusal_line};
-ghost use Rattle.text.specs.Putting.{Put, Delivered};
+ghost use Rattle.text.specs.Putting.{Delivered};
 
 use crate::fault::BufferFault;
-use crate::putting::{deliver, put_line, put_number, put_text};
+use crate::putting::{deliver, push_line};
+use arrayvec::ArrayString;
+use itoa::Buffer;
 use jobs::terms::Row;
 use plan::Plan;
 use questions::stretch::stretch_at;
 
-// Puts the line of the row at this rank: at most 20 bytes.
-fn put_row(buf: &mut [u8], at: usize, rows: &[Row], rank: usize) -> usize
-    requires { (rank < length rows.now) × (at + 20 ≤ length buf.old) }
-    ensures line { (line : List ℕ) × LineOf rows.now rank line × Put buf.old at line buf.new result }
-    ensures short { result ≤ at + 20 }
+// Appends the line of the row at this rank: at most 20 bytes.
+fn push_row<const CAP: usize>(text: &mut ArrayString<CAP>, rows: &[Row], rank: usize)
+    requires { (rank < length rows.now) × (array_string_len text.old + 20 ≤ CAP) }
+    ensures line { (line : List ℕ) × LineOf rows.now rank line × (text.new.bytes ≡ text.old.bytes ++ line) }
+    ensures short { array_string_len text.new ≤ array_string_len text.old + 20 }
 {
     let row = rows[rank];
     match row.seat {
-        Some(seat) => put_line(buf, at, row.number, b" ", seat.slot, seat.link as u16),
-        None => match stretch_at(rows, rank) {
-            Some((from, to)) => put_line(buf, at, row.number, b" - ", from, to),
-            None => at,
-        },
+        Some(seat) => push_line(text, row.number, " ", seat.slot, u16::from(seat.link)),
+        None => {
+            let Some((from, to)) = stretch_at(rows, rank) else {
+                unreachable!();
+            };
+            push_line(text, row.number, " - ", from, to);
+        }
     }
 }
 
-// Puts the line of each row, in rank order.
-fn put_rows(buf: &mut [u8], rows: &[Row]) -> usize
-    requires { 20 * length rows.now ≤ length buf.old }
-    ensures lines { Printed rows.now (take result buf.new) }
-    ensures inside { result ≤ length buf.new }
+// Appends the line of each row to an empty text, in rank order. The loop goes over ranks, since a dropped row's line asks all the rows.
+#[tactic(auto, using(crate::proofs::Lines::lines_none, crate::proofs::Lines::lines_more))]
+fn push_rows<const CAP: usize>(text: &mut ArrayString<CAP>, rows: &[Row])
+    requires { (text.old.bytes ≡ []) × (20 * length rows.now ≤ CAP) }
+    ensures { Printed rows.now text.new.bytes }
 {
-    let mut at = 0;
     for rank in 0..rows.len() {
-        at = put_row(buf, at, rows, rank);
+        push_row(text, rows, rank);
     }
-    at
 }
 
 // Prints the plan at the buffer's front, a line a job in rank order, and answers the text's length; the rest of the buffer stays as it
@@ -47,22 +50,9 @@ pub fn print(plan: &Plan, out: &mut [u8]) -> Result<usize, BufferFault>
     ensures short { IfOk result (λ n. n ≤ 5120) }
 {
     // 256 lines of at most 20 bytes.
-    let mut text = [0; 5120];
-    let end = put_rows(&mut text, plan.rows());
-    deliver(&text[..end], out)
-}
-
-// Puts the line of a refusal: at most 36 bytes.
-fn put_refusal(buf: &mut [u8], number: u8, byte: usize) -> usize
-    requires { 36 ≤ length buf.old }
-    ensures line { Put buf.old 0 (refusal_line number byte) buf.new result }
-    ensures short { result ≤ 36 }
-{
-    let a = put_text(buf, 0, b"refused ");
-    let b = put_number(buf, a, number as usize);
-    let c = put_text(buf, b, b" at ");
-    let d = put_number(buf, c, byte);
-    put_text(buf, d, b"\n")
+    let mut text = ArrayString::<5120>::new();
+    push_rows(&mut text, plan.rows());
+    deliver(text.as_str(), out)
 }
 
 // Prints the line of a refusal, its number and its byte, at the buffer's front, and answers the line's length; the rest of the buffer
@@ -71,7 +61,13 @@ pub fn print_refusal(number: u8, byte: usize, out: &mut [u8]) -> Result<usize, B
     ensures cases { Delivered (refusal_line number byte) out.old out.new result }
     ensures short { IfOk result (λ n. n ≤ 36) }
 {
-    let mut line = [0; 36];
-    let end = put_refusal(&mut line, number, byte);
-    deliver(&line[..end], out)
+    // At most 3 digits of the number and 20 of the byte.
+    let mut line = ArrayString::<36>::new();
+    let mut digits = Buffer::new();
+    line.push_str("refused ");
+    line.push_str(digits.format(number));
+    line.push_str(" at ");
+    line.push_str(digits.format(byte));
+    line.push_str("\n");
+    deliver(line.as_str(), out)
 }
