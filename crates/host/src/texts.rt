@@ -6,7 +6,7 @@ ghost use Rattle.text.specs.Printing.{Printed};
 ghost use Rattle.host.specs.Texts.{RefusalText, TextOf, TextOnce, Handed};
 
 use crate::terms::SheetText;
-use plan::{LoadRefusal, Plan, load};
+use plan::{LoadRefusal, Plan};
 use sheets::fault::LoadFault;
 use text::{BufferFault, print, print_refusal};
 use weights::kind::OrderedWeight;
@@ -43,7 +43,7 @@ pub(crate) fn text_with<W: OrderedWeight + Default>(
 {
     let mut plan = Plan::open();
     let mut store = [W::default(); 256];
-    match load::<W>(&mut plan, &mut store, sheet, false) {
+    match plan.load(&mut store, sheet, false) {
         Ok(_) => plan_text(&plan, out),
         Err(LoadRefusal::Sheet(fault)) => refusal_text(fault, out),
         Err(LoadRefusal::StoreTooShort) => unreachable!(),
