@@ -53,6 +53,6 @@ returns g c =
       cases = record { good = good; long = front.0; buffer = front.1 };
       refused = tt;
       reads = subst (λ (sheet : List ℕ). ReadsBack w.CODE w.WIDTH w.encoding sheet (masks_of end mask) (jobs_in rows store)) front.2
-          (reads_back w.CODE w.WIDTH w.encoding g.met.W.OrderedWeight.sized g.met.W.OrderedWeight.injective end mask rows store (cal.laws.end_bound c.args.calendar.now) c.rows-rows.ensures.admissible);
+          (reads_back w.CODE w.WIDTH w.encoding g.met.W.OrderedWeight.sized g.met.W.OrderedWeight.injective end mask rows store (g.met.C.Calendar.end_bound c.args.calendar.now) c.rows-rows.ensures.admissible);
       again = again g;
     }
