@@ -1,2 +1,3 @@
 pub mod Admission
 pub mod Lists
+pub mod Printed

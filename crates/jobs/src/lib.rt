@@ -3,4 +3,5 @@
 
 pub mod admission;
 pub mod list;
+pub mod printed;
 pub mod terms;
