@@ -21,9 +21,9 @@ use kinds::points::Points;
 use kinds::share::Share;
 use output::{end_at, say};
 use settings::kind;
+use sheets::kind::Kind;
 use stages::from_calendar;
 use tally::TalliedWeight;
-use terms::Kind;
 use words::next_line;
 
 // The longest script that is performed: 1 MiB.

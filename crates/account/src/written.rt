@@ -5,7 +5,7 @@ ghost use Rattle.std.specs.Str.{bytes_eq};
 ghost use Rattle.account.specs.Weights.{level_of, points_in, classed_in, share_in, points_figures, classed_figures, share_figures, answer_figures};
 
 use crate::numbers::{long_number, number};
-use crate::words::{cut, is_word};
+use crate::words::cut;
 use kinds::classed::Classed;
 use kinds::points::Points;
 use kinds::share::Share;
@@ -30,18 +30,13 @@ pub(crate) trait WrittenWeight: OrderedWeight {
 fn level(name: &[u8]) -> Option<u8>
     ensures { result ≡ level_of name.now }
 {
-    if is_word(name, "QM") {
-        Some(0)
-    } else if is_word(name, "A") {
-        Some(1)
-    } else if is_word(name, "B") {
-        Some(2)
-    } else if is_word(name, "C") {
-        Some(3)
-    } else if is_word(name, "D") {
-        Some(4)
-    } else {
-        None
+    match name {
+        b"QM" => Some(0),
+        b"A" => Some(1),
+        b"B" => Some(2),
+        b"C" => Some(3),
+        b"D" => Some(4),
+        _ => None,
     }
 }
 
