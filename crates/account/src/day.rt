@@ -9,7 +9,6 @@ use crate::tally::{TalliedWeight, Tallying};
 use crate::terms::{Command, Question};
 use crate::text::{answer_text, answered, listed};
 use crate::words::{next_line, past_lines};
-use anyhow::anyhow;
 use calendars::calendar::Calendar;
 use calls::terms::{Answer, Call};
 use plan::Plan;
@@ -89,10 +88,7 @@ pub(crate) fn day<W: TalliedWeight, C: Calendar>(
     script: &[u8],
     first: u64,
 ) -> anyhow::Result<()> {
-    let Ok(example) = W::example() else {
-        return Err(anyhow!("no weight of the kind"));
-    };
-    let mut store = vec![in rt.alloc(); example; 256]?;
+    let mut store = vec![in rt.alloc(); W::default(); 256]?;
     let mut plan = Plan::open();
     let mut rest = script;
     let mut number = first;

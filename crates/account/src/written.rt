@@ -12,7 +12,7 @@ use kinds::share::Share;
 use weights::fault::WeightFault;
 use weights::kind::OrderedWeight;
 
-pub(crate) trait WrittenWeight: OrderedWeight {
+pub(crate) trait WrittenWeight: OrderedWeight + Default {
     // The figures of a weight, and those that a text writes.
     ghost figures: { Self → List ℕ };
 
@@ -21,9 +21,6 @@ pub(crate) trait WrittenWeight: OrderedWeight {
     // None where the text has not the kind's form, an error where it is out of range.
     fn parse(text: &[u8]) -> Option<Result<Self, WeightFault>>
         ensures { option_map (answer_figures figures) result ≡ figures_in text.now };
-
-    // Some weight of the kind.
-    fn example() -> Result<Self, WeightFault>;
 }
 
 // The level of a class, from its name.
@@ -49,10 +46,6 @@ impl WrittenWeight for Points {
         let count = long_number(text)?;
         Some(Points::new(count))
     }
-
-    fn example() -> Result<Points, WeightFault> {
-        Points::new(1)
-    }
 }
 
 impl WrittenWeight for Classed {
@@ -66,10 +59,6 @@ impl WrittenWeight for Classed {
         let points = number(points)?;
         Some(Classed::new(class, points))
     }
-
-    fn example() -> Result<Classed, WeightFault> {
-        Classed::new(0, 1)
-    }
 }
 
 impl WrittenWeight for Share {
@@ -82,9 +71,5 @@ impl WrittenWeight for Share {
         let part = number(part)?;
         let whole = number(whole)?;
         Some(Share::new(part, whole))
-    }
-
-    fn example() -> Result<Share, WeightFault> {
-        Share::new(1, 1)
     }
 }

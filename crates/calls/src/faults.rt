@@ -1,8 +1,10 @@
-// The numbers of the refusals.
+// The numbers of the refusals, and the wider fault that a store's or a table's is to a call.
 ghost use Rattle.std.specs.Prelude.{◌≡◌};
+ghost use Rattle.calls.specs.declared.terms.CallFault.TheVariants.{Store, Table};
 ghost use Rattle.calls.specs.Faults.{store_fault_number, call_fault_number, stretch_fault_number};
 
 use crate::terms::{CallFault, StoreFault, StretchFault};
+use jobs::terms::TableFault;
 
 impl StoreFault {
     // The refusal's number.
@@ -26,6 +28,22 @@ impl CallFault {
             CallFault::Table(fault) => fault.number(),
             CallFault::NumberUnknown => 12,
         }
+    }
+}
+
+impl From<StoreFault> for CallFault {
+    ghost from_gives = { λ fault f. f ≡ Store fault };
+
+    fn from(fault: StoreFault) -> CallFault {
+        Self::Store(fault)
+    }
+}
+
+impl From<TableFault> for CallFault {
+    ghost from_gives = { λ fault f. f ≡ Table fault };
+
+    fn from(fault: TableFault) -> CallFault {
+        Self::Table(fault)
     }
 }
 

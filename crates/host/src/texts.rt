@@ -35,7 +35,7 @@ pub(crate) fn text_with<W: OrderedWeight>(
     out: &mut [u8],
 ) -> Result<SheetText, BufferFault>
     requires { 256 ≤ length store.old }
-    ensures cases { (refused : Bool) × ((text : List ℕ) × TextOf W.OrderedWeight.code W.OrderedWeight.width W.OrderedWeight.encoding W.OrderedWeight.no_lighter sheet.now refused text × Handed refused text out.old out.new result) }
+    ensures cases { (refused : Bool) × ((text : List ℕ) × TextOf W.OrderedWeight.CODE W.OrderedWeight.WIDTH W.OrderedWeight.encoding W.OrderedWeight.no_lighter sheet.now refused text × Handed refused text out.old out.new result) }
     ensures short { IfOk result (λ s. s.length ≤ 5120) }
 {
     let mut plan = Plan::open();
@@ -49,5 +49,5 @@ pub(crate) fn text_with<W: OrderedWeight>(
 
 // No sheet has two texts for this kind. Computes nothing.
 pub(crate) fn texts_are_alone<W: OrderedWeight>()
-    ensures { TextOnce W.OrderedWeight.code W.OrderedWeight.width W.OrderedWeight.encoding W.OrderedWeight.no_lighter }
+    ensures { TextOnce W.OrderedWeight.CODE W.OrderedWeight.WIDTH W.OrderedWeight.encoding W.OrderedWeight.no_lighter }
 {}

@@ -1,8 +1,8 @@
 // Whether a table takes a job, and the numbers of its refusals.
-ghost use Rattle.std.specs.Prelude.{◌≡◌, MatchOption};
+ghost use Rattle.std.specs.Prelude.{◌≡◌, MatchResult};
 ghost use Rattle.jobs.specs.Admission.{Admissible, RefusedFor, table_fault_number, table_fault_job};
 
-use crate::terms::TableFault;
+use crate::terms::{Job, TableFault};
 
 impl TableFault {
     // The refusal's number.
@@ -21,34 +21,29 @@ impl TableFault {
     pub fn job(&self) -> u16
         ensures { result ≡ table_fault_job self.now }
     {
-        match self {
-            TableFault::NumberZero(job) => *job,
-            TableFault::NoWindow(job) => *job,
-            TableFault::NumberTaken(job) => *job,
-            TableFault::TableFull(job) => *job,
-        }
+        let (TableFault::NumberZero(job)
+        | TableFault::NoWindow(job)
+        | TableFault::NumberTaken(job)
+        | TableFault::TableFull(job)) = self;
+        *job
     }
 }
 
-// None where a table with `count` jobs, in which the number is taken or not, takes the job; else the first cause against it.
-pub fn admission(
-    number: u16,
-    ready: u16,
-    deadline: u16,
-    taken: bool,
-    count: usize,
-) -> Option<TableFault>
-    ensures { MatchOption result (Admissible number ready deadline taken count) (RefusedFor number ready deadline taken count) }
-{
-    if number == 0 {
-        Some(TableFault::NumberZero(number))
-    } else if ready >= deadline || deadline > 1024 {
-        Some(TableFault::NoWindow(number))
-    } else if taken {
-        Some(TableFault::NumberTaken(number))
-    } else if count >= 256 {
-        Some(TableFault::TableFull(number))
-    } else {
-        None
+impl<W> Job<W> {
+    // Whether a table with `count` jobs, in which the job's number is taken or not, takes the job; else the first cause against it.
+    pub fn admission(&self, taken: bool, count: usize) -> Result<(), TableFault>
+        ensures { MatchResult result (λ _. Admissible self.now.number self.now.ready self.now.deadline taken count) (RefusedFor self.now.number self.now.ready self.now.deadline taken count) }
+    {
+        if self.number == 0 {
+            Err(TableFault::NumberZero(self.number))
+        } else if self.ready >= self.deadline || self.deadline > 1024 {
+            Err(TableFault::NoWindow(self.number))
+        } else if taken {
+            Err(TableFault::NumberTaken(self.number))
+        } else if count >= 256 {
+            Err(TableFault::TableFull(self.number))
+        } else {
+            Ok(())
+        }
     }
 }

@@ -4,4 +4,5 @@
 pub mod admission;
 pub mod list;
 pub mod printed;
+pub mod rows;
 pub mod terms;

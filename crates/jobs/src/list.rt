@@ -19,13 +19,6 @@ pub trait JobList<W> {
         ensures value { (jobs : List (Job W)) → holds self.now jobs → result ≡ nth jobs k };
 }
 
-// The k-th of some jobs that lie one behind the other.
-fn nth_of<W: Copy>(jobs: &[Job<W>], k: usize) -> Option<Job<W>>
-    ensures value { result ≡ nth jobs.now k }
-{
-    if k < jobs.len() { Some(jobs[k]) } else { None }
-}
-
 // Jobs that lie one behind the other.
 impl<W: Copy> JobList<W> for &[Job<W>] {
     ghost holds = { λ s jobs. jobs ≡ s.now };
@@ -35,6 +28,6 @@ impl<W: Copy> JobList<W> for &[Job<W>] {
     }
 
     fn nth_job(&self, k: usize) -> Option<Job<W>> {
-        nth_of(*self, k)
+        self.get(k).copied()
     }
 }

@@ -9,8 +9,8 @@ pub struct Job<W> {
     pub weight: W,
 }
 
-// A place that a job has: one link in one slot.
-#[derive(Clone, Copy, Debug, PartialEq, Eq)]
+// A place that a job has: one link in one slot. The lesser is dealt first: slot by slot, in a slot the lowest link first.
+#[derive(Clone, Copy, Debug, PartialEq, Eq, PartialOrd, Ord)]
 pub struct Seat {
     pub slot: u16,
     pub link: u8,

@@ -8,8 +8,8 @@ pub mod weight;
 use crate::class::Class;
 use weights::fault::WeightFault;
 
-// A class, and points that count within the class; never none.
-#[derive(Clone, Copy, Debug, PartialEq, Eq)]
+// A class, and points that count within the class; never none. The greater is the heavier: by class, then by points.
+#[derive(Clone, Copy, Debug, PartialEq, Eq, PartialOrd, Ord)]
 pub struct Classed {
     class: Class,
     points: u16,
@@ -22,10 +22,11 @@ impl Classed {
     pub fn new(class: u8, points: u16) -> Result<Classed, WeightFault>
         ensures { MatchResult result (λ w. (class_level w.class ≡ class) × (w.points ≡ points)) (λ e. (e ≡ NoWeight) × ((class ≤ 4) × (1 ≤ points) → ⊥)) }
     {
-        match Class::from_level(class) {
-            Some(class) if points > 0 => Ok(Classed { class, points }),
-            _ => Err(WeightFault::NoWeight),
+        let class = Class::try_from(class)?;
+        if points == 0 {
+            return Err(WeightFault::NoWeight);
         }
+        Ok(Classed { class, points })
     }
 
     // The class.
@@ -43,8 +44,20 @@ impl Classed {
     }
 }
 
-// The points of each class, summed, from class D down.
-#[derive(Clone, Copy, Debug)]
+// One point of class QM.
+impl Default for Classed {
+    ghost is_default = { λ w. (class_level w.class ≡ 0) × (w.points ≡ 1) };
+
+    fn default() -> Classed {
+        Classed {
+            class: Class::Qm,
+            points: 1,
+        }
+    }
+}
+
+// The points of each class, summed, from class D down. The greater is the heavier.
+#[derive(Clone, Copy, Debug, PartialEq, Eq, PartialOrd, Ord)]
 pub struct ClassedTotal {
     sums: [u32; 5],
 }

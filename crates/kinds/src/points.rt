@@ -6,8 +6,8 @@ pub mod weight;
 
 use weights::fault::WeightFault;
 
-// How many points a job is worth; never none.
-#[derive(Clone, Copy, Debug, PartialEq, Eq)]
+// How many points a job is worth; never none. The greater is the heavier.
+#[derive(Clone, Copy, Debug, PartialEq, Eq, PartialOrd, Ord)]
 pub struct Points {
     count: u32,
     ghost ok: { (1 ≤ count) × (count ≤ 4294967295) },
@@ -32,8 +32,17 @@ impl Points {
     }
 }
 
-// The sum of some points.
-#[derive(Clone, Copy, Debug)]
+// One point.
+impl Default for Points {
+    ghost is_default = { λ p. p.count ≡ 1 };
+
+    fn default() -> Points {
+        Points { count: 1 }
+    }
+}
+
+// The sum of some points. The greater is the heavier.
+#[derive(Clone, Copy, Debug, PartialEq, Eq, PartialOrd, Ord)]
 pub struct PointsTotal {
     sum: u64,
 }

@@ -39,3 +39,12 @@ impl Share {
         self.whole
     }
 }
+
+// 1 over 1.
+impl Default for Share {
+    ghost is_default = { λ s. (s.part ≡ 1) × (s.whole ≡ 1) };
+
+    fn default() -> Share {
+        Share { part: 1, whole: 1 }
+    }
+}

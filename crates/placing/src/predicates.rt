@@ -10,7 +10,7 @@ use jobs::terms::Seat;
 pub fn in_window(ready: u16, deadline: u16, slot: u16) -> bool
     ensures answers { Decides result (InWindow ready deadline slot) }
 {
-    ready <= slot && slot < deadline
+    (ready..deadline).contains(&slot)
 }
 
 // Whether, of two ready jobs, the first is seated before the other: it has the earlier deadline, or the same one and the lower number.
@@ -19,12 +19,12 @@ pub fn goes_first(deadline: u16, number: u16, other_deadline: u16, other_number:
     ensures answers { Decides result (ServedFirst deadline number other_deadline other_number) }
     ensures value { result ≡ goes_first deadline number other_deadline other_number }
 {
-    deadline < other_deadline || (deadline == other_deadline && number < other_number)
+    (deadline, number) < (other_deadline, other_number)
 }
 
 // Whether place `a` is dealt before place `b`: slot by slot upward, in a slot the lowest link first.
 pub fn earlier(a: Seat, b: Seat) -> bool
     ensures answers { Decides result (Earlier a b) }
 {
-    a.slot < b.slot || (a.slot == b.slot && a.link < b.link)
+    a < b
 }

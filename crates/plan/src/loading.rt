@@ -21,7 +21,7 @@ pub fn load<'a, W: OrderedWeight>(
     sheet: &'a [u8],
     carried_on: bool,
 ) -> Result<&'a [u8], LoadRefusal>
-    ensures cases { MatchResult result (λ masks. Loaded W.OrderedWeight.code W.OrderedWeight.width W.OrderedWeight.encoding W.OrderedWeight.no_lighter carried_on sheet.now masks.now (at (rows_in plan.old) store.old) (at (rows_in plan.new) store.new)) (LoadRefused W.OrderedWeight.code W.OrderedWeight.width W.OrderedWeight.encoding sheet.now store.old) }
+    ensures cases { MatchResult result (λ masks. Loaded W.OrderedWeight.CODE W.OrderedWeight.WIDTH W.OrderedWeight.encoding W.OrderedWeight.no_lighter carried_on sheet.now masks.now (at (rows_in plan.old) store.old) (at (rows_in plan.new) store.new)) (LoadRefused W.OrderedWeight.CODE W.OrderedWeight.WIDTH W.OrderedWeight.encoding sheet.now store.old) }
     ensures refused { OnErr result ((plan.new ≡ plan.old) × (store.new ≡ store.old)) }
 {
     if store.len() < 256 {

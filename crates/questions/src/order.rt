@@ -1,5 +1,5 @@
 // The rank of rows by their weights, which lie in a store beside them: that of row i at i.
-ghost use Rattle.std.specs.Prelude.{Decides, MatchOption};
+ghost use Rattle.std.specs.Prelude.{Decides, MatchResult};
 ghost use Rattle.placing.specs.Orders.{heavier_then_lower};
 ghost use Rattle.calls.specs.Moments.{Ordered};
 ghost use Rattle.questions.specs.Stores.{StoreGood, StoreRefused};
@@ -17,6 +17,7 @@ pub fn in_order<W: OrderedWeight>(rows: &[Row], store: &[W]) -> bool
     if store.len() < rows.len() {
         return false;
     }
+    // By index, since each turn reads two neighbours of the rows and of the store.
     for rank in 1..rows.len() {
         if !ranks_before(
             &store[rank - 1],
@@ -30,15 +31,15 @@ pub fn in_order<W: OrderedWeight>(rows: &[Row], store: &[W]) -> bool
     true
 }
 
-// What is wrong with the store of these rows, the length first; None exactly where it is long enough and puts them in rank order.
-pub fn store_fault<W: OrderedWeight>(rows: &[Row], store: &[W]) -> Option<StoreFault>
-    ensures cases { MatchOption result (StoreGood (heavier_then_lower W.OrderedWeight.no_lighter) rows.now store.now) (StoreRefused (heavier_then_lower W.OrderedWeight.no_lighter) rows.now store.now) }
+// Whether the store of these rows is long enough and puts them in rank order; else what is wrong with it, the length first.
+pub fn check_store<W: OrderedWeight>(rows: &[Row], store: &[W]) -> Result<(), StoreFault>
+    ensures cases { MatchResult result (λ _. StoreGood (heavier_then_lower W.OrderedWeight.no_lighter) rows.now store.now) (StoreRefused (heavier_then_lower W.OrderedWeight.no_lighter) rows.now store.now) }
 {
     if store.len() < 256 {
-        return Some(StoreFault::TooShort);
+        return Err(StoreFault::TooShort);
     }
     if !in_order(rows, store) {
-        return Some(StoreFault::OutOfRank);
+        return Err(StoreFault::OutOfRank);
     }
-    None
+    Ok(())
 }

@@ -6,7 +6,7 @@ ghost use Rattle.placing.specs.Promise.{total_of_kept};
 ghost use Rattle.calls.specs.Questions.{kept_count, dropped_count, total_of_dropped};
 ghost use Rattle.questions.specs.Stores.{Counted, StoreGood, StoreRefused};
 
-use crate::order::store_fault;
+use crate::order::check_store;
 use crate::terms::Tally;
 use calls::terms::StoreFault;
 use jobs::terms::Row;
@@ -16,24 +16,16 @@ use weights::kind::{OrderedWeight, TotalledWeight};
 pub fn tally<W: OrderedWeight>(rows: &[Row], store: &[W]) -> Result<Tally, StoreFault>
     ensures cases { MatchResult result (λ t. StoreGood (heavier_then_lower W.OrderedWeight.no_lighter) rows.now store.now × (t.kept ≡ kept_count rows.now) × (t.dropped ≡ dropped_count rows.now)) (StoreRefused (heavier_then_lower W.OrderedWeight.no_lighter) rows.now store.now) }
 {
-    match store_fault(rows, store) {
-        Some(fault) => Err(fault),
-        None => Ok(count(rows)),
-    }
+    check_store(rows, store)?;
+    Ok(count(rows))
 }
 
 // Counts the rows with a seat, and those without.
 fn count(rows: &[Row]) -> Tally
     ensures value { (result.kept ≡ kept_count rows.now) × (result.dropped ≡ dropped_count rows.now) }
 {
-    let mut kept = 0;
-    let mut dropped = 0;
-    for row in rows {
-        match row.seat {
-            Some(_) => kept += 1,
-            None => dropped += 1,
-        }
-    }
+    let kept = rows.iter().filter(|row| row.seat.is_some()).count();
+    let dropped = rows.len() - kept;
     Tally { kept, dropped }
 }
 
@@ -48,7 +40,7 @@ pub fn totals_of<W: TotalledWeight>(rows: &[Row], store: &[W]) -> Option<(W::Tot
     Some((kept, dropped))
 }
 
-// The total of the kept rows, or of the dropped ones, the last row first. 256 weights always have a total.
+// The total of the kept rows, or of the dropped ones. 256 weights always have a total.
 fn total_where<W: TotalledWeight>(rows: &[Row], store: &[W], kept: bool) -> Option<W::Total>
     ensures cases { MatchOption result (Counted rows.now store.now → ⊥) (λ t. Counted rows.now store.now × (t ≡ (if kept then total_of_kept W.TotalledWeight.nothing W.TotalledWeight.plus rows.now store.now else total_of_dropped W.TotalledWeight.nothing W.TotalledWeight.plus rows.now store.now))) }
     ensures agrees { Agrees W.OrderedWeight.no_lighter W.TotalledWeight.plus W.TotalledWeight.over }
@@ -57,9 +49,9 @@ fn total_where<W: TotalledWeight>(rows: &[Row], store: &[W], kept: bool) -> Opti
     if rows.len() > 256 || rows.len() > store.len() {
         return None;
     }
-    for rank in (0..rows.len()).rev() {
-        if rows[rank].seat.is_some() == kept {
-            total = W::add(total, &store[rank])?;
+    for (row, weight) in rows.iter().zip(store) {
+        if row.seat.is_some() == kept {
+            total = W::add(total, weight)?;
         }
     }
     Some(total)

@@ -7,8 +7,8 @@ use weights::kind::OrderedWeight;
 // How many bytes of a sheet of the kind W decide its reading: the kind record, the longest calendar record and 257 job records.
 // A front of that length is never accepted, and its fault is the fault of each sheet that begins with it.
 pub fn deciding_front<W: OrderedWeight>() -> usize
-    ensures value { result ≡ 1031 + 257 * (9 + W.OrderedWeight.width) }
-    ensures decides { FrontDecides W.OrderedWeight.code W.OrderedWeight.width W.OrderedWeight.encoding result }
+    ensures value { result ≡ 1031 + 257 * (9 + W.OrderedWeight.WIDTH) }
+    ensures decides { FrontDecides W.OrderedWeight.CODE W.OrderedWeight.WIDTH W.OrderedWeight.encoding result }
 {
-    1031 + 257 * (9 + W::byte_width())
+    1031 + 257 * (9 + W::WIDTH)
 }

@@ -30,7 +30,7 @@ pub(crate) fn job_of<W: OrderedWeight>(value: &[u8]) -> Result<Job<W>, WeightFau
 pub(crate) fn number_taken<W: OrderedWeight>(records: &[u8], number: u16) -> bool
     ensures { (jobs : List (Job W)) → records.now ≡ job_records W.OrderedWeight.encoding jobs → result ≡ taken number jobs }
 {
-    let size = 9 + W::byte_width();
+    let size = 9 + W::WIDTH;
     let mut rest = records;
     while rest.len() >= size {
         if u16::from_be_bytes([rest[3], rest[4]]) == number {
@@ -43,9 +43,9 @@ pub(crate) fn number_taken<W: OrderedWeight>(records: &[u8], number: u16) -> boo
 
 // The job of the k-th of these records; None where there is no such record, or its bytes are no job.
 pub(crate) fn job_at<W: OrderedWeight>(records: &[u8], k: usize) -> Option<Job<W>>
-    ensures { MatchOption result ((job : Job W) → JobAt W.OrderedWeight.encoding (9 + W.OrderedWeight.width) records.now k job → ⊥) (λ job. JobAt W.OrderedWeight.encoding (9 + W.OrderedWeight.width) records.now k job) }
+    ensures { MatchOption result ((job : Job W) → JobAt W.OrderedWeight.encoding (9 + W.OrderedWeight.WIDTH) records.now k job → ⊥) (λ job. JobAt W.OrderedWeight.encoding (9 + W.OrderedWeight.WIDTH) records.now k job) }
 {
-    let size = 9 + W::byte_width();
+    let size = 9 + W::WIDTH;
     let Some(at) = k.checked_mul(size) else {
         return None;
     };

@@ -10,7 +10,6 @@ use crate::job_record::{job_of, number_taken};
 use crate::kind::code_of;
 use crate::record::record_value;
 use crate::sheet::Sheet;
-use jobs::admission::admission;
 use std::marker::PhantomData;
 use weights::kind::OrderedWeight;
 
@@ -23,9 +22,9 @@ fn check_job<W: OrderedWeight>(
     count: usize,
 ) -> Result<usize, LoadFault>
     requires { (first ≤ at) × (at < length sheet.now) }
-    ensures { (before : List (Job W)) → take (at - first) (drop first sheet.now) ≡ job_records W.OrderedWeight.encoding before → length before ≡ count → JobAnswer W.OrderedWeight.code W.OrderedWeight.width W.OrderedWeight.encoding before sheet.now at result }
+    ensures { (before : List (Job W)) → take (at - first) (drop first sheet.now) ≡ job_records W.OrderedWeight.encoding before → length before ≡ count → JobAnswer W.OrderedWeight.CODE W.OrderedWeight.WIDTH W.OrderedWeight.encoding before sheet.now at result }
 {
-    let size = 6 + W::byte_width();
+    let size = 6 + W::WIDTH;
     let value = match record_value(&sheet[at..], 3, size, size) {
         Ok(value) => value,
         Err(fault) => return Err(LoadFault::Sheet(fault, at)),
@@ -34,16 +33,16 @@ fn check_job<W: OrderedWeight>(
         return Err(LoadFault::Sheet(SheetFault::NoWeight, at));
     };
     let taken = number_taken::<W>(&sheet[first..at], job.number);
-    match admission(job.number, job.ready, job.deadline, taken, count) {
-        Some(fault) => Err(LoadFault::Table(fault, at)),
-        None => Ok(at + 3 + value.len()),
+    match job.admission(taken, count) {
+        Err(fault) => Err(LoadFault::Table(fault, at)),
+        Ok(()) => Ok(at + 3 + value.len()),
     }
 }
 
 // The job records from byte `first` to the end: how many there are, or the first fault.
 fn check_jobs<W: OrderedWeight>(sheet: &[u8], first: usize) -> Result<usize, LoadFault>
     requires { first ≤ length sheet.now }
-    ensures { MatchResult result (λ count. JobsRead W.OrderedWeight.code W.OrderedWeight.width W.OrderedWeight.encoding sheet.now first (length sheet.now) count) (λ fault. JobsRefused W.OrderedWeight.code W.OrderedWeight.width W.OrderedWeight.encoding sheet.now first fault) }
+    ensures { MatchResult result (λ count. JobsRead W.OrderedWeight.CODE W.OrderedWeight.WIDTH W.OrderedWeight.encoding sheet.now first (length sheet.now) count) (λ fault. JobsRefused W.OrderedWeight.CODE W.OrderedWeight.WIDTH W.OrderedWeight.encoding sheet.now first fault) }
 {
     let mut at = first;
     let mut count = 0;
@@ -56,14 +55,14 @@ fn check_jobs<W: OrderedWeight>(sheet: &[u8], first: usize) -> Result<usize, Loa
 
 // Reads a sheet for the kind W, or answers its first fault. No sheet has two readings.
 pub fn read<W: OrderedWeight>(sheet: &[u8]) -> Result<Sheet<'_, W>, LoadFault>
-    ensures value { MatchResult result (λ s. Accepted W.OrderedWeight.code W.OrderedWeight.width W.OrderedWeight.encoding sheet.now s.masks.now s.records.now s.count) (λ fault. Refused W.OrderedWeight.code W.OrderedWeight.width W.OrderedWeight.encoding sheet.now fault) }
-    ensures alone { OneReading W.OrderedWeight.code W.OrderedWeight.width W.OrderedWeight.encoding }
+    ensures value { MatchResult result (λ s. Accepted W.OrderedWeight.CODE W.OrderedWeight.WIDTH W.OrderedWeight.encoding sheet.now s.masks.now s.records.now s.count) (λ fault. Refused W.OrderedWeight.CODE W.OrderedWeight.WIDTH W.OrderedWeight.encoding sheet.now fault) }
+    ensures alone { OneReading W.OrderedWeight.CODE W.OrderedWeight.WIDTH W.OrderedWeight.encoding }
 {
     let code = match code_of(sheet) {
         Ok(code) => code,
         Err(fault) => return Err(LoadFault::Sheet(fault, 0)),
     };
-    if code != W::kind_code() {
+    if code != W::CODE {
         return Err(LoadFault::Sheet(SheetFault::OtherKind, 0));
     }
     let masks = match record_value(&sheet[4..], 2, 0, 1024) {

@@ -37,7 +37,7 @@ impl<'a, W> Sheet<'a, W> {
 impl<W: OrderedWeight> Sheet<'_, W> {
     // The k-th job, counted from 0: None from the number of jobs on.
     pub fn job(&self, k: usize) -> Option<Job<W>>
-        ensures value { MatchOption result ((job : Job W) → JobAt W.OrderedWeight.encoding (9 + W.OrderedWeight.width) self.now.records.now k job → ⊥) (λ job. JobAt W.OrderedWeight.encoding (9 + W.OrderedWeight.width) self.now.records.now k job) }
+        ensures value { MatchOption result ((job : Job W) → JobAt W.OrderedWeight.encoding (9 + W.OrderedWeight.WIDTH) self.now.records.now k job → ⊥) (λ job. JobAt W.OrderedWeight.encoding (9 + W.OrderedWeight.WIDTH) self.now.records.now k job) }
         ensures listed { (jobs : List (Job W)) → self.now.records.now ≡ job_records W.OrderedWeight.encoding jobs → result ≡ nth jobs k }
     {
         job_at::<W>(self.records, k)

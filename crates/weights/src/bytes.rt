@@ -6,14 +6,9 @@ use crate::kind::OrderedWeight;
 // Writes the weight into the space and reads it again: the weight itself, exactly where the space has the kind's width.
 // Else None, and the space is left as it is.
 pub fn through_bytes<W: OrderedWeight>(weight: &W, space: &mut [u8]) -> Option<W>
-    ensures value { result ≡ (if nat_eq (length space.old) W.OrderedWeight.width then Some weight.now else None) }
-    ensures leaves { space.new ≡ (if nat_eq (length space.old) W.OrderedWeight.width then W.OrderedWeight.encoding weight.now else space.old) }
+    ensures value { result ≡ (if nat_eq (length space.old) W.OrderedWeight.WIDTH then Some weight.now else None) }
+    ensures leaves { space.new ≡ (if nat_eq (length space.old) W.OrderedWeight.WIDTH then W.OrderedWeight.encoding weight.now else space.old) }
 {
-    if !weight.write(space) {
-        return None;
-    }
-    match W::read(space) {
-        Ok(read) => Some(read),
-        Err(_) => None,
-    }
+    weight.write(space).ok()?;
+    W::read(space).ok()
 }

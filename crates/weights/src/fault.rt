@@ -18,3 +18,7 @@ impl WeightFault {
         }
     }
 }
+
+// A space has not the width of the kind whose weight is to be written there.
+#[derive(Clone, Copy, Debug, PartialEq, Eq)]
+pub struct WrongWidth;

@@ -1,33 +1,28 @@
 // The kinds of weight: what a kind owes, whether or not its weights can be totalled.
 ghost use Rattle.std.specs.Prelude.{◌≡◌, ℕ, ◌≤◌, Bool, true, ◌⊎◌, List, length, if◌then◌else◌, fold, MatchOption, MatchResult, ◌==◌, ◌≢◌};
+ghost use Rattle.std.specs.Result.{is_ok};
 ghost use Rattle.weights.specs.Kind.{Octets, Agrees};
 
-use crate::fault::WeightFault;
+use crate::fault::{WeightFault, WrongWidth};
 
 // A kind of weight. Its meaning is the relation 'no lighter' and the bytes of each weight.
 pub trait OrderedWeight: Copy {
+    // The kind's code in a sheet.
     const CODE: u8;
 
+    // How many bytes a weight takes.
     const WIDTH: usize;
 
-    // What the two constants are: a clause cannot cite a constant of a trait.
-    ghost code: { ℕ };
+    // The two constants for clauses, which a kind states once more.
+    ghost CODE: { ℕ };
 
-    ghost width: { ℕ };
+    ghost WIDTH: { ℕ };
 
     // `no_lighter a b`: a is at least as heavy as b. Two different weights may each be so.
     ghost no_lighter: { Self → Self → Bool };
 
     // The bytes of a weight.
     ghost encoding: { Self → List ℕ };
-
-    // The kind's code in a sheet.
-    fn kind_code() -> u8
-        ensures { result ≡ code };
-
-    // How many bytes a weight takes.
-    fn byte_width() -> usize
-        ensures { result ≡ width };
 
     fn at_least(&self, other: &Self) -> bool
         ensures { result ≡ no_lighter self.now other.now };
@@ -36,20 +31,20 @@ pub trait OrderedWeight: Copy {
     fn read(bytes: &[u8]) -> Result<Self, WeightFault>
         ensures { MatchResult result (λ w. encoding w ≡ bytes.now) (λ _. (w : Self) → encoding w ≢ bytes.now) };
 
-    // Writes the weight's bytes over the space and answers true, or leaves a space of any other length as it is.
-    fn write(&self, space: &mut [u8]) -> bool
-        ensures answers { result ≡ (length space.old == width) }
-        ensures leaves { space.new ≡ (if result then encoding self.now else space.old) };
+    // Writes the weight's bytes over a space of the kind's width; a space of any other length is refused and left as it is.
+    fn write(&self, space: &mut [u8]) -> Result<(), WrongWidth>
+        ensures answers { is_ok result ≡ (length space.old == WIDTH) }
+        ensures leaves { space.new ≡ (if is_ok result then encoding self.now else space.old) };
 
-    ghost coded: { code ≤ 255 };
+    ghost coded: { CODE ≤ 255 };
 
-    ghost narrow: { width ≤ 65529 };
+    ghost narrow: { WIDTH ≤ 65529 };
 
     ghost total: { (a b : Self) → (no_lighter a b ≡ true) ⊎ (no_lighter b a ≡ true) };
 
     ghost transitive: { (a b c : Self) → no_lighter a b ≡ true → no_lighter b c ≡ true → no_lighter a c ≡ true };
 
-    ghost sized: { (w : Self) → length (encoding w) ≡ width };
+    ghost sized: { (w : Self) → length (encoding w) ≡ WIDTH };
 
     ghost octets: { (w : Self) → Octets (encoding w) };
 

@@ -12,12 +12,9 @@ pub fn total_of<W: TotalledWeight>(weights: &[W], picked: &[bool], n: usize) -> 
         return None;
     }
     let mut total = W::nothing();
-    for i in 0..n {
-        if picked[i] {
-            match W::add(total, &weights[i]) {
-                Some(sum) => total = sum,
-                None => return None,
-            }
+    for (weight, is_picked) in weights[..n].iter().zip(picked) {
+        if *is_picked {
+            total = W::add(total, weight)?;
         }
     }
     Some(total)

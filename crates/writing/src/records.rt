@@ -14,10 +14,10 @@ use weights::kind::OrderedWeight;
 // Puts the record of the kind's code.
 pub(crate) fn put_kind<W: OrderedWeight>(out: &mut [u8], at: usize) -> usize
     requires room { at + 4 ≤ length out.old }
-    ensures value { Put at (kind_record W.OrderedWeight.code) out.old out.new result }
+    ensures value { Put at (kind_record W.OrderedWeight.CODE) out.old out.new result }
 {
     let next = put_header(out, at, 1, 1);
-    put_byte(out, next, W::kind_code())
+    put_byte(out, next, W::CODE)
 }
 
 // Puts the calendar's mask for each slot below its end.
@@ -44,10 +44,10 @@ pub(crate) fn put_calendar<C: Calendar>(calendar: &C, out: &mut [u8], at: usize)
 
 // Puts the record of a job.
 fn put_job<W: OrderedWeight>(row: &Row, weight: &W, out: &mut [u8], at: usize) -> usize
-    requires room { at + (9 + W.OrderedWeight.width) ≤ length out.old }
+    requires room { at + (9 + W.OrderedWeight.WIDTH) ≤ length out.old }
     ensures value { Put at (record_bytes 3 (job_value W.OrderedWeight.encoding (job_of row.now weight.now))) out.old out.new result }
 {
-    let width = W::byte_width();
+    let width = W::WIDTH;
     let number = put_header(out, at, 3, (6 + width) as u16);
     let ready = put_two(out, number, row.number);
     let deadline = put_two(out, ready, row.ready);
@@ -64,7 +64,7 @@ pub(crate) fn put_jobs<W: OrderedWeight>(
     at: usize,
 ) -> usize
     requires stored { length rows.now ≤ length store.now }
-    requires room { at + length rows.now * (9 + W.OrderedWeight.width) ≤ length out.old }
+    requires room { at + length rows.now * (9 + W.OrderedWeight.WIDTH) ≤ length out.old }
     ensures value { Put at (job_records W.OrderedWeight.encoding (jobs_in rows.now store.now)) out.old out.new result }
 {
     let mut next = at;

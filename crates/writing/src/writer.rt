@@ -19,9 +19,9 @@ use weights::kind::OrderedWeight;
 // How many bytes the sheet has: the kind record, the calendar record and a record for each row.
 fn sheet_length<W: OrderedWeight, C: Calendar>(rows: &[Row], calendar: &C) -> usize
     requires few { length rows.now ≤ 256 }
-    ensures value { result ≡ 7 + C.Calendar.end calendar.now + length rows.now * (9 + W.OrderedWeight.width) }
+    ensures value { result ≡ 7 + C.Calendar.end calendar.now + length rows.now * (9 + W.OrderedWeight.WIDTH) }
 {
-    7 + calendar.end() as usize + rows.len() * (9 + W::byte_width())
+    7 + calendar.end() as usize + rows.len() * (9 + W::WIDTH)
 }
 
 // Puts the sheet at the front of a buffer that has room for it.
@@ -32,8 +32,8 @@ fn put_sheet<W: OrderedWeight, C: Calendar>(
     out: &mut [u8],
 ) -> usize
     requires stored { length rows.now ≤ length store.now }
-    requires room { 7 + C.Calendar.end calendar.now + length rows.now * (9 + W.OrderedWeight.width) ≤ length out.old }
-    ensures value { Put 0 (written_sheet W.OrderedWeight.code W.OrderedWeight.encoding (C.Calendar.end calendar.now) (C.Calendar.mask calendar.now) rows.now store.now) out.old out.new result }
+    requires room { 7 + C.Calendar.end calendar.now + length rows.now * (9 + W.OrderedWeight.WIDTH) ≤ length out.old }
+    ensures value { Put 0 (written_sheet W.OrderedWeight.CODE W.OrderedWeight.encoding (C.Calendar.end calendar.now) (C.Calendar.mask calendar.now) rows.now store.now) out.old out.new result }
 {
     let masks = put_kind::<W>(out, 0);
     let first = put_calendar(calendar, out, masks);
@@ -49,10 +49,10 @@ pub fn write<W: OrderedWeight, C: Calendar>(
     store: &[W],
     out: &mut [u8],
 ) -> Result<usize, WriteFault>
-    ensures cases { MatchResult result (λ n. Written W.OrderedWeight.no_lighter W.OrderedWeight.code W.OrderedWeight.encoding (C.Calendar.end calendar.now) (C.Calendar.mask calendar.now) (rows_in plan.now) store.now out.old out.new n) (λ f. WriteRefused (heavier_then_lower W.OrderedWeight.no_lighter) (rows_in plan.now) store.now (length (written_sheet W.OrderedWeight.code W.OrderedWeight.encoding (C.Calendar.end calendar.now) (C.Calendar.mask calendar.now) (rows_in plan.now) store.now)) (length out.old) f) }
+    ensures cases { MatchResult result (λ n. Written W.OrderedWeight.no_lighter W.OrderedWeight.CODE W.OrderedWeight.encoding (C.Calendar.end calendar.now) (C.Calendar.mask calendar.now) (rows_in plan.now) store.now out.old out.new n) (λ f. WriteRefused (heavier_then_lower W.OrderedWeight.no_lighter) (rows_in plan.now) store.now (length (written_sheet W.OrderedWeight.CODE W.OrderedWeight.encoding (C.Calendar.end calendar.now) (C.Calendar.mask calendar.now) (rows_in plan.now) store.now)) (length out.old) f) }
     ensures refused { OnErr result (out.new ≡ out.old) }
-    ensures reads { IfOk result (λ n. ReadsBack W.OrderedWeight.code W.OrderedWeight.width W.OrderedWeight.encoding (take n out.new) (masks_of (C.Calendar.end calendar.now) (C.Calendar.mask calendar.now)) (jobs_in (rows_in plan.now) store.now)) }
-    ensures again { WrittenBack W.OrderedWeight.code W.OrderedWeight.width W.OrderedWeight.encoding W.OrderedWeight.no_lighter }
+    ensures reads { IfOk result (λ n. ReadsBack W.OrderedWeight.CODE W.OrderedWeight.WIDTH W.OrderedWeight.encoding (take n out.new) (masks_of (C.Calendar.end calendar.now) (C.Calendar.mask calendar.now)) (jobs_in (rows_in plan.now) store.now)) }
+    ensures again { WrittenBack W.OrderedWeight.CODE W.OrderedWeight.WIDTH W.OrderedWeight.encoding W.OrderedWeight.no_lighter }
 {
     let rows = plan.rows();
     if let Some(fault) = store_fault(rows, store) {

@@ -8,7 +8,7 @@ ghost use Rattle.kinds.specs.Sums.{lex_total, lex_trans, lex_anti, add_comm_at, 
 ghost use Rattle.std.specs.Prelude.{ℕ, ◌-◌, List};
 
 use crate::classed::{Classed, ClassedTotal};
-use weights::fault::WeightFault;
+use weights::fault::{WeightFault, WrongWidth};
 use weights::kind::{OrderedWeight, TotalledWeight};
 
 impl OrderedWeight for Classed {
@@ -16,9 +16,9 @@ impl OrderedWeight for Classed {
 
     const WIDTH: usize = 3;
 
-    ghost code = { 2 };
+    ghost CODE = { 2 };
 
-    ghost width = { 3 };
+    ghost WIDTH = { 3 };
 
     ghost no_lighter = { classed_no_lighter };
 
@@ -40,22 +40,8 @@ impl OrderedWeight for Classed {
         let parts = classed_parts (class_level v.class) v.points (class_level w.class) w.points (omega arith) (omega arith) e in
         classed_same v w parts.0 parts.1 };
 
-    fn kind_code() -> u8 {
-        Self::CODE
-    }
-
-    fn byte_width() -> usize {
-        Self::WIDTH
-    }
-
     fn at_least(&self, other: &Classed) -> bool {
-        let level = self.class.level();
-        let others = other.class.level();
-        if level == others {
-            self.points >= other.points
-        } else {
-            level > others
-        }
+        self >= other
     }
 
     fn read(bytes: &[u8]) -> Result<Classed, WeightFault> {
@@ -65,13 +51,13 @@ impl OrderedWeight for Classed {
         Classed::new(*class, u16::from_be_bytes([*high, *low]))
     }
 
-    fn write(&self, space: &mut [u8]) -> bool {
+    fn write(&self, space: &mut [u8]) -> Result<(), WrongWidth> {
         if space.len() != Self::WIDTH {
-            return false;
+            return Err(WrongWidth);
         }
         let [high, low] = self.points.to_be_bytes();
         space.copy_from_slice(&[self.class.level(), high, low]);
-        true
+        Ok(())
     }
 }
 
@@ -113,11 +99,6 @@ impl TotalledWeight for Classed {
     }
 
     fn at_least_total(s: &ClassedTotal, t: &ClassedTotal) -> bool {
-        for i in 0..5 {
-            if s.sums[i] != t.sums[i] {
-                return s.sums[i] > t.sums[i];
-            }
-        }
-        true
+        s >= t
     }
 }

@@ -5,7 +5,7 @@ ghost use Rattle.kinds.specs.HighFirst.{high_first_injective};
 ghost use Rattle.kinds.specs.PointsFacts.{points_same, sum_bound};
 
 use crate::points::{Points, PointsTotal};
-use weights::fault::WeightFault;
+use weights::fault::{WeightFault, WrongWidth};
 use weights::kind::{OrderedWeight, TotalledWeight};
 
 impl OrderedWeight for Points {
@@ -13,9 +13,9 @@ impl OrderedWeight for Points {
 
     const WIDTH: usize = 4;
 
-    ghost code = { 1 };
+    ghost CODE = { 1 };
 
-    ghost width = { 4 };
+    ghost WIDTH = { 4 };
 
     ghost no_lighter = { points_no_lighter };
 
@@ -35,16 +35,8 @@ impl OrderedWeight for Points {
 
     ghost injective = { λ p q e. points_same p q (high_first_injective 4 p.count q.count (omega arith) (omega arith) e) };
 
-    fn kind_code() -> u8 {
-        Self::CODE
-    }
-
-    fn byte_width() -> usize {
-        Self::WIDTH
-    }
-
     fn at_least(&self, other: &Points) -> bool {
-        self.count >= other.count
+        self >= other
     }
 
     fn read(bytes: &[u8]) -> Result<Points, WeightFault> {
@@ -54,12 +46,12 @@ impl OrderedWeight for Points {
         Points::new(u32::from_be_bytes([*a, *b, *c, *d]))
     }
 
-    fn write(&self, space: &mut [u8]) -> bool {
+    fn write(&self, space: &mut [u8]) -> Result<(), WrongWidth> {
         if space.len() != Self::WIDTH {
-            return false;
+            return Err(WrongWidth);
         }
         space.copy_from_slice(&self.count.to_be_bytes());
-        true
+        Ok(())
     }
 }
 
@@ -98,6 +90,6 @@ impl TotalledWeight for Points {
     }
 
     fn at_least_total(s: &PointsTotal, t: &PointsTotal) -> bool {
-        s.sum >= t.sum
+        s >= t
     }
 }

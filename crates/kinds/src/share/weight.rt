@@ -6,7 +6,7 @@ ghost use Rattle.kinds.specs.ShareFacts.{cross, share_same, share_parts};
 ghost use Rattle.std.proofs.Common.{arith, rules};
 
 use crate::share::Share;
-use weights::fault::WeightFault;
+use weights::fault::{WeightFault, WrongWidth};
 use weights::kind::OrderedWeight;
 
 impl OrderedWeight for Share {
@@ -14,9 +14,9 @@ impl OrderedWeight for Share {
 
     const WIDTH: usize = 4;
 
-    ghost code = { 3 };
+    ghost CODE = { 3 };
 
-    ghost width = { 4 };
+    ghost WIDTH = { 4 };
 
     ghost no_lighter = { share_no_lighter };
 
@@ -38,14 +38,6 @@ impl OrderedWeight for Share {
         let parts = share_parts s.part s.whole t.part t.whole (omega arith) (omega arith) (omega arith) (omega arith) e in
         share_same s t parts.0 parts.1 };
 
-    fn kind_code() -> u8 {
-        Self::CODE
-    }
-
-    fn byte_width() -> usize {
-        Self::WIDTH
-    }
-
     fn at_least(&self, other: &Share) -> bool {
         self.part as u32 * other.whole as u32 >= other.part as u32 * self.whole as u32
     }
@@ -57,13 +49,13 @@ impl OrderedWeight for Share {
         Share::new(u16::from_be_bytes([*a, *b]), u16::from_be_bytes([*c, *d]))
     }
 
-    fn write(&self, space: &mut [u8]) -> bool {
+    fn write(&self, space: &mut [u8]) -> Result<(), WrongWidth> {
         if space.len() != Self::WIDTH {
-            return false;
+            return Err(WrongWidth);
         }
         let [a, b] = self.part.to_be_bytes();
         let [c, d] = self.whole.to_be_bytes();
         space.copy_from_slice(&[a, b, c, d]);
-        true
+        Ok(())
     }
 }

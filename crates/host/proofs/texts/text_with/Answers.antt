@@ -33,6 +33,6 @@ pub returns-in-Err-Sheet : goal.returns-in-Err-Sheet
 returns-in-Err-Sheet g c =
     let w = g.W.OrderedWeight in
     let line = c.refusal_text.ensures.cases in
-    let refused = subst (LoadRefused w.code w.width w.encoding c.args.sheet.now c.args.store.now) c.in-Err-Sheet.field-0-is c.in-Err-Sheet.ensures.cases in
+    let refused = subst (LoadRefused w.CODE w.WIDTH w.encoding c.args.sheet.now c.args.store.now) c.in-Err-Sheet.field-0-is c.in-Err-Sheet.ensures.cases in
     let text = subst (λ f. RefusalText f line.0) c.in-Err-Sheet.fault-is line.1 in
     record { cases = (true, (line.0, (c.in-Err-Sheet.fault, refused.1, text), line.2)); short = c.refusal_text.ensures.short }

@@ -8,4 +8,4 @@ returns g c =
     let w = g.W.OrderedWeight in
     let met = g.met.W.OrderedWeight in
     let weighs : Weighs w.no_lighter = record { total = met.total; trans = met.transitive } in
-    text_once w.code w.width w.encoding w.no_lighter (one_reading w.code w.width w.encoding met.sized met.injective) weighs
+    text_once w.CODE w.WIDTH w.encoding w.no_lighter (one_reading w.CODE w.WIDTH w.encoding met.sized met.injective) weighs

@@ -17,7 +17,7 @@ returns g c =
     let store = c.if-carried_on.store in
     let lent = c.masks-masks.result.now in
     let calendar = c.in-Ok-new.ensures.cases.1 in
-    let load = loaded w.code w.width w.encoding w.no_lighter c.args.sheet.now read.masks.now read.records.now read.count a (at (rows_in c.args.plan.now) c.args.store.now) (omega arith) in
+    let load = loaded w.CODE w.WIDTH w.encoding w.no_lighter c.args.sheet.now read.masks.now read.records.now read.count a (at (rows_in c.args.plan.now) c.args.store.now) (omega arith) in
     record {
       cases = elim c.if-carried_on.branch [
         | then-carried_on v ↦

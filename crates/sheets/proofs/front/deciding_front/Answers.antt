@@ -7,5 +7,5 @@ returns g c =
     let w = g.W.OrderedWeight in
     record {
       value = omega arith;
-      decides = λ front enough. front_decides w.code w.width w.encoding g.met.W.OrderedWeight.sized front (omega arith);
+      decides = λ front enough. front_decides w.CODE w.WIDTH w.encoding g.met.W.OrderedWeight.sized front (omega arith);
     }

@@ -5,5 +5,5 @@ use Rattle.sheets.proofs.job_record.job_at.Goals as goal
 pub returns-in-Ok : goal.returns-in-Ok
 returns-in-Ok g c =
     let w = g.W.OrderedWeight in
-    job_at_read w.encoding c.args.records.now c.in-Ok.job c.args.k c.byte_width-size.result w.width c.in-Some.at
-    c.byte_width-size.ensures (search rules) (omega arith) (omega arith) c.in-Ok.ensures
+    job_at_read w.encoding c.args.records.now c.in-Ok.job c.args.k c.WIDTH-size.result w.WIDTH c.in-Some.at
+    c.WIDTH-size.ensures (search rules) (omega arith) (omega arith) c.in-Ok.ensures

@@ -5,21 +5,21 @@ use Rattle.sheets.proofs.reader.check_job.Goals as goal
 pub returns-in-Err : goal.returns-in-Err
 returns-in-Err g c before e few =
     let w = g.W.OrderedWeight in
-    frame_refused w.code w.width w.encoding before c.args.sheet.now c.args.at c.byte_width-size.result c.byte_width-size.ensures c.in-Err.fault c.in-Err.ensures
+    frame_refused w.CODE w.WIDTH w.encoding before c.args.sheet.now c.args.at c.WIDTH-size.result c.WIDTH-size.ensures c.in-Err.fault c.in-Err.ensures
 
 pub returns-in_default : goal.returns-in_default
 returns-in_default g c before e few =
     let w = g.W.OrderedWeight in
-    weight_refused w.code w.width w.encoding before c.args.sheet.now c.args.at c.byte_width-size.result c.byte_width-size.ensures _ c.in-Ok.ensures c.in_default.ensures
+    weight_refused w.CODE w.WIDTH w.encoding before c.args.sheet.now c.args.at c.WIDTH-size.result c.WIDTH-size.ensures _ c.in-Ok.ensures c.in_default.ensures
 
-pub returns-in-Some : goal.returns-in-Some
-returns-in-Some g c before e few =
+pub returns-in-Err-admission : goal.returns-in-Err-admission
+returns-in-Err-admission g c before e few =
     let w = g.W.OrderedWeight in
-    table_refused w.code w.width w.encoding before c.args.sheet.now c.args.at c.byte_width-size.result c.byte_width-size.ensures _ c.in-Ok.ensures
-    c.in-Ok-job_of.job c.in-Ok-job_of.ensures c.args.count few c.number_taken-taken.result (c.number_taken-taken.ensures before e) c.in-Some.fault c.in-Some.ensures
+    table_refused w.CODE w.WIDTH w.encoding before c.args.sheet.now c.args.at c.WIDTH-size.result c.WIDTH-size.ensures _ c.in-Ok.ensures
+    c.in-Ok-job_of.job c.in-Ok-job_of.ensures c.args.count few c.number_taken-taken.result (c.number_taken-taken.ensures before e) c.in-Err-admission.fault c.in-Err-admission.ensures
 
-pub returns-in-None : goal.returns-in-None
-returns-in-None g c before e few =
+pub returns-in-Ok-admission : goal.returns-in-Ok-admission
+returns-in-Ok-admission g c before e few =
     let w = g.W.OrderedWeight in
-    job_read w.code w.width w.encoding before c.args.sheet.now c.args.at c.byte_width-size.result c.byte_width-size.ensures _ c.in-Ok.ensures
-    c.in-Ok-job_of.job c.in-Ok-job_of.ensures c.args.count few c.number_taken-taken.result (c.number_taken-taken.ensures before e) (omega arith) c.in-None.ensures
+    job_read w.CODE w.WIDTH w.encoding before c.args.sheet.now c.args.at c.WIDTH-size.result c.WIDTH-size.ensures _ c.in-Ok.ensures
+    c.in-Ok-job_of.job c.in-Ok-job_of.ensures c.args.count few c.number_taken-taken.result (c.number_taken-taken.ensures before e) (omega arith) c.in-Ok-admission.ensures

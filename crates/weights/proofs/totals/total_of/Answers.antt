@@ -1,35 +1,39 @@
-use Rattle.std.proofs.Common.{◌≡◌, ◌+◌, take, fold, sym, ap, ◌∙◌, subst, arith}
-use Rattle.weights.specs.Picking.{picked_of}
-use Rattle.weights.proofs.Picked.{total_more, total_same, few_picked}
+use Rattle.std.proofs.Common.{◌++◌, ◌∷◌, [], length, fold, sym, ap, ◌∙◌, subst, ⊎_elim, inl, inr, length-append, arith}
+use Rattle.std.proofs.lemmas.List.Sums.{fold_push}
+use Rattle.weights.proofs.Picked.{none_left, picked_front}
 use Rattle.weights.proofs.totals.total_of.Goals as goal
-use Rattle.weights.proofs.totals.total_of.Goals.{then-picked-i+in-Some, else-picked-i}
 
-pub loop-i-preserved : goal.loop-i-preserved
-loop-i-preserved g c =
+-- those seen so far, and this one
+pub returns-in_err-total : goal.returns-in_err-total
+returns-in_err-total g c =
     let t = g.W.TotalledWeight in
-    let bs = c.args.picked.now in
-    let ws = c.args.weights.now in
-    let i = c.loop-i.i in
-    elim c.if-picked-i.branch [
-      | then-picked-i+in-Some w ↦
-          w.total-is ∙ w.in-Some.ensures.value ∙ ap (λ s. t.plus s w.index-weights-i.result) c.loop-i.invariant
-          ∙ sym (total_more t.plus t.nothing bs ws i w.index-weights-i.result (omega arith) (omega arith) w.if-picked-i.true w.index-weights-i.is)
-      | else-picked-i w ↦
-          w.total-is ∙ c.loop-i.invariant ∙ sym (total_same t.plus t.nothing bs ws i (omega arith) (omega arith) w.if-picked-i.false)
-    ]
+    let x = c.in-Some.weight.now in
+    let seen = c.loop-weight.invariant.3.0 in
+    let all = ap (λ s. t.plus s x) c.loop-weight.invariant.3.2 ∙ sym (fold_push t.plus t.nothing seen x) in
+    absurd (c.in_err-total.ensures.value (subst t.fits (sym all) (g.met.W.TotalledWeight.room (seen ++ x ∷ []) (omega (arith, length-append seen (x ∷ []), ap length c.in-Some.ensures.steps.0, c.loop-weight.invariant.3.1)))))
 
-pub returns-in-None : goal.returns-in-None
-returns-in-None g c h =
+pub loop-weight-preserved-then-is_picked : goal.loop-weight-preserved-then-is_picked
+loop-weight-preserved-then-is_picked g c =
     let t = g.W.TotalledWeight in
-    let bs = c.args.picked.now in
-    let ws = c.args.weights.now in
-    let i = c.loop-i.i in
-    let x = c.index-weights-i.result in
-    let same = total_more t.plus t.nothing bs ws i x (omega arith) (omega arith) c.if-picked-i.true c.index-weights-i.is ∙ ap (λ s. t.plus s x) (sym c.loop-i.invariant) in
-    c.in-None.ensures.value (subst t.fits same (g.met.W.TotalledWeight.room (picked_of (take (i + 1) bs) (take (i + 1) ws)) (few_picked bs ws (i + 1) 256 (omega arith))))
+    let x = c.in-Some.weight.now in
+    let i = c.loop-weight.invariant in
+    let steps = c.in-Some.ensures.steps in
+    let seen = i.3.0 in (
+      i.0,
+      i.1,
+      rw c.in_ok-total.ensures.value (rw (steps.0, steps.1, c.if-is_picked.true) at i.2),
+      (
+        seen ++ x ∷ [],
+        omega (arith, length-append seen (x ∷ []), ap length steps.0, i.3.1),
+        c.in_ok-total.ensures.value ∙ ap (λ s. t.plus s x) i.3.2 ∙ sym (fold_push t.plus t.nothing seen x),
+      ),
+    )
 
 pub returns : goal.returns
 returns g c =
     let t = g.W.TotalledWeight in
-    let e : c.loop-i.i ≡ c.args.n = omega arith in
-    ((omega arith, omega arith, omega arith), c.loop-i.invariant ∙ ap (λ k. fold t.plus t.nothing (picked_of (take k c.args.picked.now) (take k c.args.weights.now))) e)
+    let i = c.loop-weight.invariant in
+    let none = none_left _ _ (⊎_elim (λ a. inl a.1.0) (λ b. inr b.1.0) c.in-None.ensures.steps) in (
+      (omega arith, omega arith, omega arith),
+      sym (ap (fold t.plus c.loop-weight.total) none) ∙ i.2 ∙ ap (fold t.plus t.nothing) (sym (picked_front c.args.n c.args.picked.now c.args.weights.now)),
+    )

@@ -14,8 +14,8 @@ returns g c =
     let row = c.args.row.now in
     let weight = c.args.weight.now in
     let bytes = w.encoding weight in
-    let k = c.byte_width-width.result in
-    let long : 6 + k ≡ length (job_value w.encoding (job_of row weight)) = (let e = value_long w.encoding w.width sized (job_of row weight) in let f = c.byte_width-width.ensures in omega arith) in
+    let k = c.WIDTH-width.result in
+    let long : 6 + k ≡ length (job_value w.encoding (job_of row weight)) = (let e = value_long w.encoding w.WIDTH sized (job_of row weight) in let f = c.WIDTH-width.ensures in omega arith) in
     let out₁ = c.put_header-number.new.out in
     let out₂ = c.put_two-ready.new.out in
     let out₃ = c.put_two-deadline.new.out in
@@ -25,8 +25,8 @@ returns g c =
     let d = c.put_two-deadline.result in
     let e = c.put_two-next.result in
     let out₅ = put_mid e (e + k - e) out₄ c.write.new.space in
-    let part = put_part e k w.width out₄ c.write.new.space bytes c.write.result c.write.ensures.answers c.write.ensures.leaves
-    c.byte_width-width.ensures (sized weight) (search rules) in
+    let part = put_part e k w.WIDTH out₄ c.write.new.space bytes c.write.result c.write.ensures.answers c.write.ensures.leaves
+    c.WIDTH-width.ensures (sized weight) (search rules) in
     record {
       value = subst (λ (n : ℕ). Put c.args.at (3 ∷ two n ++ (two row.number ++ (two row.ready ++ (two row.deadline ++ bytes)))) c.args.out.now out₅ (e + k)) long
           (put_then c.args.at a (e + k) (3 ∷ two (6 + k)) _ c.args.out.now out₁ out₅ (search rules) c.put_header-number.ensures.value

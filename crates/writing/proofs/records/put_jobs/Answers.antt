@@ -16,8 +16,8 @@ put_job-next-requires g c =
     let rows = c.args.rows.now in
     let store = c.args.store.now in
     let i = c.loop-rank.rank in
-    let long = front_long w.encoding w.width sized rows store c.requires.stored i (omega arith) in
-    let more = front_room w.encoding w.width sized rows store c.requires.stored i c.loop-rank-test.true in
+    let long = front_long w.encoding w.WIDTH sized rows store c.requires.stored i (omega arith) in
+    let more = front_room w.encoding w.WIDTH sized rows store c.requires.stored i c.loop-rank-test.true in
     let place = c.loop-rank.invariant.place in
     let room = c.requires.room in
     record { room = omega arith }
@@ -35,8 +35,8 @@ loop-rank-preserved g c =
     let out = c.put_job-next.new.out in
     let next = c.put_job-next.result in
     subst (λ (l : List ℕ). Put c.args.at l c.args.out.now out next)
-    (sym (front_more w.encoding w.width sized rows store c.requires.stored i c.loop-rank-test.true c.index-store-rank.result c.index-store-rank.is))
-    (put_then c.args.at c.loop-rank.next next (front w.encoding w.width sized rows store i) (record_bytes 3 (job_value w.encoding (job_of (row_at rows i) c.index-store-rank.result))) c.args.out.now c.loop-rank.out out
+    (sym (front_more w.encoding w.WIDTH sized rows store c.requires.stored i c.loop-rank-test.true c.index-store-rank.result c.index-store-rank.is))
+    (put_then c.args.at c.loop-rank.next next (front w.encoding w.WIDTH sized rows store i) (record_bytes 3 (job_value w.encoding (job_of (row_at rows i) c.index-store-rank.result))) c.args.out.now c.loop-rank.out out
     (let h = c.requires.room in omega arith) c.loop-rank.invariant c.put_job-next.ensures.value)
 
 pub returns : goal.returns

@@ -31,6 +31,6 @@ returns g c =
     let h = c.requires.room in
     let room : a ≤ length out₁ = omega arith in
     record {
-      value = put_then 0 a n (kind_record w.code) _ c.args.out.now out₁ out₃ (omega arith) c.put_kind-masks.ensures.value
+      value = put_then 0 a n (kind_record w.CODE) _ c.args.out.now out₁ out₃ (omega arith) c.put_kind-masks.ensures.value
           (put_then a b n (record_bytes 2 masks) records out₁ out₂ out₃ room c.put_calendar-first.ensures.value c.put_jobs.ensures.value);
     }

@@ -1,21 +1,10 @@
-use Rattle.std.proofs.Common.{◌≡◌, length, sym, ◌∙◌, arith, rules}
-use Rattle.kinds.specs.Sums.{lex_more, lex_here, lex_all}
+use Rattle.std.proofs.Common.{refl, arith}
+use Rattle.std.specs.Ordering.{nat_cmp, is_ge}
+use Rattle.std.proofs.lemmas.Bool.Decides.{nat_tests}
+use Rattle.std.proofs.lemmas.Cmp.{same_from_slice_cmp_tested}
+use Rattle.kinds.specs.ClassedKind.{lex_at_least}
 use Rattle.kinds.proofs.classed.weight.ClassedTotalledWeight.at_least_total.Goals as goal
-
-pub loop-i-preserved : goal.loop-i-preserved
-loop-i-preserved c =
-    let s : length c.args.s.now.sums ≡ 5 = search rules in
-    let t : length c.args.t.now.sums ≡ 5 = search rules in
-    sym (lex_more c.args.s.now.sums c.args.t.now.sums c.loop-i.i (omega arith) (omega arith) c.if-s-i.false) ∙ c.loop-i.invariant
-
-pub returns-then-s-i : goal.returns-then-s-i
-returns-then-s-i c =
-    let s : length c.args.s.now.sums ≡ 5 = search rules in
-    let t : length c.args.t.now.sums ≡ 5 = search rules in
-    sym (lex_here c.args.s.now.sums c.args.t.now.sums c.loop-i.i (omega arith) (omega arith) c.if-s-i.true) ∙ c.loop-i.invariant
 
 pub returns : goal.returns
 returns c =
-    let s : length c.args.s.now.sums ≡ 5 = search rules in
-    let t : length c.args.t.now.sums ≡ 5 = search rules in
-    sym (lex_all c.args.s.now.sums c.args.t.now.sums c.loop-i.i (omega arith) (omega arith)) ∙ c.loop-i.invariant
+    same_from_slice_cmp_tested nat_cmp is_ge lex_at_least refl (λ _ _. refl) (λ _ _. refl) (λ x y xs ys o h. grind (arith, nat_tests)) c.args.s.now.sums c.args.t.now.sums c.ge.result c.ge.ensures
