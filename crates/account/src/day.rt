@@ -92,6 +92,7 @@ pub(crate) fn day<W: TalliedWeight, C: Calendar>(
     let mut plan = Plan::open();
     let mut rest = script;
     let mut number = first;
+    // No iterator of lines: a turn takes a run's lines, and then one more.
     while !rest.is_empty() {
         let calls = calls_ahead::<W>(rt.alloc(), rest)?;
         make_run(rt, &mut plan, calendar, &mut store, &calls, rest)?;

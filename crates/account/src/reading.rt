@@ -57,7 +57,8 @@ fn reweigh<W: WrittenWeight>(text: &[u8]) -> Option<Command<W>>
     }
 }
 
-// A call from its name and what follows it. A `match` on b"offer" and the others was tried: the proof of its last arm didn't close.
+// A call from its name and what follows it.
+// By `if`: a `match` on b"offer" and the others was tried, and the proof of its last arm did not close.
 fn call<W: WrittenWeight>(name: &[u8], text: &[u8]) -> Option<Command<W>>
     ensures { option_map (command_figures W.WrittenWeight.figures) result ≡ call_in W.WrittenWeight.figures_in name.now text.now }
 {
@@ -119,6 +120,7 @@ pub(crate) fn calls_ahead<W: WrittenWeight>(
 {
     let mut calls = Vec::new(heap);
     let mut rest = text;
+    // No iterator of lines: the other loops over them need the text that is left.
     while !rest.is_empty() {
         let (line, after) = next_line(rest);
         let Some(Command::Make(call)) = command::<W>(line) else {

@@ -46,18 +46,12 @@ fn masks(heap: Global, text: &[u8]) -> Result<Option<Vec<u8>>, AllocError>
     ensures { IfOk result (λ o. option_map vec_items o ≡ masks_of (words_of text.now)) }
 {
     let mut masks = Vec::new(heap);
-    let mut rest = text;
-    while let Some((word, after)) = cut(rest, b' ') {
+    for word in text.split(|byte| *byte == b' ') {
         let Some(mask) = mask(word) else {
             return Ok(None);
         };
         masks.push(mask)?;
-        rest = after;
     }
-    let Some(last) = mask(rest) else {
-        return Ok(None);
-    };
-    masks.push(last)?;
     Ok(Some(masks))
 }
 

@@ -1,11 +1,12 @@
 // Weights as a script writes them: points as a number, classed as the class, a colon and the points, a share as a fraction.
 ghost use Rattle.std.specs.Prelude.{◌≡◌, ℕ, List, Option};
 ghost use Rattle.std.specs.Option.{option_map};
-ghost use Rattle.std.specs.Str.{bytes_eq};
+ghost use Rattle.kinds.specs.ClassLevels.{class_level};
 ghost use Rattle.account.specs.Weights.{level_of, points_in, classed_in, share_in, points_figures, classed_figures, share_figures, answer_figures};
 
 use crate::numbers::{long_number, number};
 use crate::words::cut;
+use kinds::class::Class;
 use kinds::classed::Classed;
 use kinds::points::Points;
 use kinds::share::Share;
@@ -23,16 +24,16 @@ pub(crate) trait WrittenWeight: OrderedWeight + Default {
         ensures { option_map (answer_figures figures) result ≡ figures_in text.now };
 }
 
-// The level of a class, from its name.
-fn level(name: &[u8]) -> Option<u8>
-    ensures { result ≡ level_of name.now }
+// The class of that name.
+fn class_named(name: &[u8]) -> Option<Class>
+    ensures { option_map class_level result ≡ level_of name.now }
 {
     match name {
-        b"QM" => Some(0),
-        b"A" => Some(1),
-        b"B" => Some(2),
-        b"C" => Some(3),
-        b"D" => Some(4),
+        b"QM" => Some(Class::Qm),
+        b"A" => Some(Class::A),
+        b"B" => Some(Class::B),
+        b"C" => Some(Class::C),
+        b"D" => Some(Class::D),
         _ => None,
     }
 }
@@ -43,8 +44,7 @@ impl WrittenWeight for Points {
     ghost figures_in = { points_in };
 
     fn parse(text: &[u8]) -> Option<Result<Points, WeightFault>> {
-        let count = long_number(text)?;
-        Some(Points::new(count))
+        long_number(text).map(Points::new)
     }
 }
 
@@ -55,9 +55,9 @@ impl WrittenWeight for Classed {
 
     fn parse(text: &[u8]) -> Option<Result<Classed, WeightFault>> {
         let (name, points) = cut(text, b':')?;
-        let class = level(name)?;
+        let class = class_named(name)?;
         let points = number(points)?;
-        Some(Classed::new(class, points))
+        Some(Classed::new(class.level(), points))
     }
 }
 

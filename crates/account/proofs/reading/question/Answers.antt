@@ -1,6 +1,5 @@
-use Rattle.std.proofs.Common.{◌≡◌, codes, sym, ap, arith, rules}
+use Rattle.std.proofs.Common.{◌≡◌, codes, arith, rules}
 use Rattle.std.proofs.lemmas.Slice.Eq.{text_from_reads}
-use Rattle.account.specs.Commands.{question_in}
 use Rattle.account.proofs.reading.question.Goals as goal
 
 pub returns-in-standing : goal.returns-in-standing

@@ -1,5 +1,4 @@
-use Rattle.std.proofs.Common.{◌≡◌, ◌+◌, None, add-one, ap, ◌∙◌, rules}
-use Rattle.std.specs.Option.{option_map}
+use Rattle.std.proofs.Common.{◌+◌, add-one, rules}
 use Rattle.std.proofs.lemmas.List.{take_rest}
 use Rattle.account.proofs.Cuts.{cut_none, cut_some}
 use Rattle.account.proofs.words.cut.Goals as goal
