@@ -1,5 +1,5 @@
 -- Numbers stay distinct where a row is seated, inserted or removed, and each row keeps its window and its number. Assumes nothing.
-use Rattle.std.proofs.Common.{◌≡◌, ℕ, ◌+◌, ◌-◌, ◌<◌, ◌≤◌, List, length, take, set, Option, sym, ap, ◌∙◌, subst, inl, inr, ⊎_elim, arith}
+use Rattle.std.proofs.Common.{◌≡◌, ℕ, ◌+◌, ◌-◌, ◌<◌, ◌≤◌, List, length, take, set, Option, None, Some, MatchOption, sym, ap, ◌∙◌, subst, inl, inr, ⊎_elim, arith}
 use lib.Seq.{take-set-lt}
 use Rattle.std.specs.List.{insert, remove}
 use Rattle.std.proofs.lemmas.List.{get_or-take, get_or-set_same, get_or-set_other, length-set, length-take-le}
@@ -11,6 +11,9 @@ use Rattle.jobs.specs.declared.terms.Standing.TheVariants.{Absent}
 use Rattle.placing.specs.Placing.{Apart, SameTable, blank, row}
 use Rattle.placing.specs.Plan.{Stands}
 use Rattle.jobs.specs.Admission.{Window}
+use Rattle.std.specs.List.{AllWithin, HoldsAt}
+use Rattle.plan.specs.declared.table.Table.{Table}
+use Rattle.plan.specs.Tables.{rows_of}
 use Rattle.plan.specs.Rows.{Distinct, Numbered, Windows, with_seat}
 
 pub distinct_apart : (rows : List Row) → Distinct rows → Apart rows
@@ -121,3 +124,14 @@ module _ (rows after : List Row) (s : SameTable rows after) where
 -- how many rows are in use
 pub rows_count : (rows : List Row) (n : ℕ) → length rows ≡ 256 → n ≤ 256 → length (take n rows) ≡ n
 rows_count rows n whole few = length-take-le n rows (omega arith)
+
+-- the first row with a number, or none
+pub found_first : (rows : List Row) (n count : ℕ) (r : Option ℕ) → length rows ≡ count
+    → MatchOption r (AllWithin (λ (q : Row). q.number ≡ n → ⊥) rows 0 (length rows)) (λ i. (i < length rows) × HoldsAt (λ (q : Row). q.number ≡ n) rows i × AllWithin (λ (q : Row). q.number ≡ n → ⊥) rows 0 i)
+    → MatchOption r (Stands rows n Absent) (λ rank. (rank < count) × ((row rows rank).number ≡ n))
+found_first rows n count None e h = λ i l. h i blank (omega arith) l
+found_first rows n count (Some i) e h = (omega (arith, h.0), h.1 blank)
+
+-- a table has as many rows as it counts
+pub counted : (table : Table) → length (rows_of table) ≡ table.count
+counted table = rows_count table.rows table.count table.whole table.few

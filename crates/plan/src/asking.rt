@@ -33,10 +33,8 @@ impl Plan {
     pub fn seat(&self, number: u16) -> Option<Seat>
         ensures value { SeatOf (rows_in self.now) number result }
     {
-        match self.table.find(number) {
-            Some(rank) => self.table.row(rank).seat,
-            None => None,
-        }
+        let rank = self.table.find(number)?;
+        self.table.row(rank).seat
     }
 
     // The stretch of the dropped job with this number: its first slot and the slot after its last. Refused for a number that is not
@@ -44,16 +42,11 @@ impl Plan {
     pub fn stretch(&self, number: u16) -> Result<(u16, u16), StretchFault>
         ensures value { StretchOf (rows_in self.now) number result }
     {
-        let Some(rank) = self.table.find(number) else {
-            return Err(StretchFault::NumberUnknown);
-        };
+        let rank = self.table.find(number).ok_or(StretchFault::NumberUnknown)?;
         if self.table.row(rank).seat.is_some() {
             return Err(StretchFault::JobKept);
         }
-        match stretch_at(self.rows(), rank) {
-            Some(run) => Ok(run),
-            None => Err(StretchFault::NumberUnknown),
-        }
+        stretch_at(self.rows(), rank).ok_or(StretchFault::NumberUnknown)
     }
 
     // How many jobs are kept, and how many dropped. Refused for a store that is too short (14) or out of rank order (6).
@@ -71,13 +64,12 @@ impl Plan {
         ensures cases { MatchResult result (λ t. StoreGood (heavier_then_lower W.OrderedWeight.no_lighter) (rows_in self.now) store.now × (t.jobs.kept ≡ kept_count (rows_in self.now)) × (t.jobs.dropped ≡ dropped_count (rows_in self.now)) × (t.kept_total ≡ total_of_kept W.TotalledWeight.nothing W.TotalledWeight.plus (rows_in self.now) store.now) × (t.dropped_total ≡ total_of_dropped W.TotalledWeight.nothing W.TotalledWeight.plus (rows_in self.now) store.now)) (StoreRefused (heavier_then_lower W.OrderedWeight.no_lighter) (rows_in self.now) store.now) }
     {
         let jobs = self.tally(store)?;
-        match totals_of(self.rows(), store) {
-            Some((kept_total, dropped_total)) => Ok(TotalTally {
-                jobs,
-                kept_total,
-                dropped_total,
-            }),
-            None => Err(StoreFault::TooShort),
-        }
+        let totals = totals_of(self.rows(), store);
+        let (kept_total, dropped_total) = totals.ok_or(StoreFault::TooShort)?;
+        Ok(TotalTally {
+            jobs,
+            kept_total,
+            dropped_total,
+        })
     }
 }

@@ -13,7 +13,7 @@ ghost use Rattle.plan.specs.Tables.{rows_of};
 use crate::others::first_other;
 use crate::planner::Plan;
 use crate::ranking::{insert_ranked, remove_ranked};
-use crate::refusing::{named_rank, offer_fault};
+use crate::refusing::{check_offer, named_rank};
 use crate::table::Table;
 use calendars::calendar::Calendar;
 use calls::terms::Answer;
@@ -26,10 +26,9 @@ fn answer(before: &Table, after: &Table, named: u16) -> (bool, Option<u16>)
     ensures kept { (result.0 ≡ true → Stands (rows_of after.now) named Kept) × (Stands (rows_of after.now) named Kept → result.0 ≡ true) }
     ensures other { FirstOther (rows_of before.now) (rows_of after.now) named result.1 }
 {
-    let kept = match after.find(named) {
-        Some(rank) => after.row(rank).seat.is_some(),
-        None => false,
-    };
+    let kept = after
+        .find(named)
+        .is_some_and(|rank| after.row(rank).seat.is_some());
     (kept, first_other(before, after, named))
 }
 
@@ -44,17 +43,9 @@ pub fn offer<W: OrderedWeight, C: Calendar>(
     ensures outcome { Outcome (in_force W.OrderedWeight.no_lighter (C.Calendar.mask calendar.now)) (at (rows_in plan.old) store.old) (Offer job) result (at (rows_in plan.new) store.new) }
     ensures refused { OnErr result (plan.new ≡ plan.old) }
 {
-    if let Some(fault) = offer_fault(&plan.table, store, &job) {
-        return Err(fault);
-    }
+    check_offer(&plan.table, store, &job)?;
     let mut table = plan.table;
-    let row = Row {
-        number: job.number,
-        ready: job.ready,
-        deadline: job.deadline,
-        seat: None,
-    };
-    insert_ranked(&mut table, store, row, job.weight);
+    insert_ranked(&mut table, store, Row::from(&job), job.weight);
     table.replan(calendar);
     let answered = answer(&plan.table, &table, job.number);
     plan.table = table;

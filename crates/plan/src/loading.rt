@@ -27,19 +27,16 @@ pub fn load<'a, W: OrderedWeight>(
     if store.len() < 256 {
         return Err(LoadRefusal::StoreTooShort);
     }
-    let accepted = match read::<W>(sheet) {
-        Ok(accepted) => accepted,
-        Err(fault) => return Err(LoadRefusal::Sheet(fault)),
-    };
+    let accepted = read::<W>(sheet)?;
     let masks = accepted.masks();
     // A sheet that was read has at most 1,024 masks, so that its calendar is always made.
-    let Ok(calendar) = Listed::new(masks) else {
-        return Err(LoadRefusal::StoreTooShort);
-    };
-    if carried_on {
-        fill_from(plan, &CarriedOn::new(calendar), store, &accepted);
+    let calendar = Listed::new(masks).unwrap();
+    // The reader has seen that a table takes the jobs.
+    let filled = if carried_on {
+        fill_from(plan, &CarriedOn::new(calendar), store, &accepted)
     } else {
-        fill_from(plan, &calendar, store, &accepted);
-    }
+        fill_from(plan, &calendar, store, &accepted)
+    };
+    filled.unwrap();
     Ok(masks)
 }

@@ -25,6 +25,7 @@ pub(crate) fn first_other(before: &Table, after: &Table, named: u16) -> Option<u
     requires { OthersStay (rows_of before.now) (rows_of after.now) named }
     ensures value { FirstOther (rows_of before.now) (rows_of after.now) named result }
 {
+    // Tried as `(0..after.len()).find(..)`: what a failing closure says of its two tests together was not proved.
     for rank in 0..after.len() {
         let number = after.row(rank).number;
         if number != named && changed(before, after, rank) {

@@ -1,5 +1,6 @@
 // Why a sheet is not loaded: for want of a store, or as the reader or the table refuses it.
 ghost use Rattle.std.specs.Prelude.{◌≡◌};
+ghost use Rattle.plan.specs.declared.refusal.LoadRefusal.TheVariants.{Sheet};
 ghost use Rattle.plan.specs.Loading.{load_refusal_number, load_refusal_byte, load_refusal_job};
 
 use sheets::fault::LoadFault;
@@ -41,5 +42,13 @@ impl LoadRefusal {
             LoadRefusal::StoreTooShort => None,
             LoadRefusal::Sheet(fault) => fault.job(),
         }
+    }
+}
+
+impl From<LoadFault> for LoadRefusal {
+    ghost from_gives = { λ fault refusal. refusal ≡ Sheet fault };
+
+    fn from(fault: LoadFault) -> LoadRefusal {
+        Self::Sheet(fault)
     }
 }

@@ -1,5 +1,5 @@
 // Why a call is refused: the first cause that holds, before anything is changed.
-ghost use Rattle.std.specs.Prelude.{◌≡◌, ◌<◌, MatchOption, MatchResult};
+ghost use Rattle.std.specs.Prelude.{◌≡◌, ◌<◌, MatchResult};
 ghost use Rattle.calls.specs.Calls.{FirstCause, NoCause};
 ghost use Rattle.calls.specs.Moments.{at};
 ghost use Rattle.calls.specs.declared.terms.Call.TheVariants.{Offer};
@@ -11,27 +11,22 @@ ghost use Rattle.plan.specs.Tables.{rows_of};
 
 use crate::table::Table;
 use calls::terms::CallFault;
-use jobs::admission::admission;
 use jobs::terms::Job;
-use questions::order::store_fault;
+use questions::order::check_store;
 use weights::kind::OrderedWeight;
 
-// The first cause against an offer.
-pub(crate) fn offer_fault<W: OrderedWeight>(
+// Refuses an offer for the first cause against it.
+pub(crate) fn check_offer<W: OrderedWeight>(
     table: &Table,
     store: &[W],
     job: &Job<W>,
-) -> Option<CallFault>
-    ensures cases { MatchOption result (StoreGood (heavier_then_lower W.OrderedWeight.no_lighter) (rows_of table.now) store.now × NoCause (heavier_then_lower W.OrderedWeight.no_lighter) (Offer job.now) (at (rows_of table.now) store.now)) (FirstCause (heavier_then_lower W.OrderedWeight.no_lighter) (Offer job.now) (at (rows_of table.now) store.now)) }
+) -> Result<(), CallFault>
+    ensures cases { MatchResult result (λ _. StoreGood (heavier_then_lower W.OrderedWeight.no_lighter) (rows_of table.now) store.now × NoCause (heavier_then_lower W.OrderedWeight.no_lighter) (Offer job.now) (at (rows_of table.now) store.now)) (FirstCause (heavier_then_lower W.OrderedWeight.no_lighter) (Offer job.now) (at (rows_of table.now) store.now)) }
 {
-    if let Some(fault) = store_fault(table.rows(), store) {
-        return Some(CallFault::Store(fault));
-    }
+    check_store(table.rows(), store)?;
     let taken = table.find(job.number).is_some();
-    match admission(job.number, job.ready, job.deadline, taken, table.len()) {
-        Some(fault) => Some(CallFault::Table(fault)),
-        None => None,
-    }
+    job.admission(taken, table.len())?;
+    Ok(())
 }
 
 // The rank of the job that a call names, or the first cause against the call.
@@ -42,11 +37,6 @@ pub(crate) fn named_rank<W: OrderedWeight>(
 ) -> Result<usize, CallFault>
     ensures cases { MatchResult result (λ rank. StoreGood (heavier_then_lower W.OrderedWeight.no_lighter) (rows_of table.now) store.now × (rank < table.now.count) × ((row_at (rows_of table.now) rank).number ≡ number)) (NameRefused (heavier_then_lower W.OrderedWeight.no_lighter) (rows_of table.now) store.now number) }
 {
-    if let Some(fault) = store_fault(table.rows(), store) {
-        return Err(CallFault::Store(fault));
-    }
-    match table.find(number) {
-        Some(rank) => Ok(rank),
-        None => Err(CallFault::NumberUnknown),
-    }
+    check_store(table.rows(), store)?;
+    table.find(number).ok_or(CallFault::NumberUnknown)
 }

@@ -61,12 +61,7 @@ impl Table {
     pub(crate) fn find(&self, number: u16) -> Option<usize>
         ensures cases { MatchOption result (Stands (rows_of self.now) number Absent) (λ rank. (rank < self.now.count) × ((row_at (rows_of self.now) rank).number ≡ number)) }
     {
-        for rank in 0..self.count {
-            if self.rows[rank].number == number {
-                return Some(rank);
-            }
-        }
-        None
+        self.rows().iter().position(|row| row.number == number)
     }
 
     // Gives the row at a rank another seat, or none.

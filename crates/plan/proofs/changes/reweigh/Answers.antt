@@ -10,7 +10,7 @@ use Rattle.plan.specs.Tables.{rows_of}
 use Rattle.plan.proofs.Causes.{name_allowed}
 use Rattle.plan.proofs.OneMore.{offer_more, withdraw_more, same_itself, more_stay, less_stay, stay_on}
 use Rattle.plan.proofs.Outcomes.{reweighed_at}
-use Rattle.plan.proofs.Rows.{HasWindow, HasNumber, distinct_apart, windows_inserted, numbered_inserted, windows_removed, numbered_removed, windows_like, numbered_like, rows_count}
+use Rattle.plan.proofs.Rows.{HasWindow, HasNumber, distinct_apart, windows_inserted, numbered_inserted, windows_removed, numbered_removed, windows_like, numbered_like, counted}
 use Rattle.plan.proofs.changes.reweigh.Goals as goal
 
 pub replan-requires : goal.replan-requires
@@ -19,8 +19,8 @@ replan-requires g c =
     let less = c.remove_ranked.new.table in
     let rows = rows_of table in
     let p = c.in_ok-from.from in
-    let within : p < length rows = (let l = rows_count table.rows table.count table.whole table.few in let h = c.in_ok-from.ensures.cases.1 in omega arith) in
-    let most : c.insert_ranked.result ≤ length (rows_of less) = (let l = rows_count less.rows less.count less.whole less.few in let h = c.insert_ranked.ensures.within in omega arith) in
+    let within : p < length rows = (let l = counted table in let h = c.in_ok-from.ensures.cases.1 in omega arith) in
+    let most : c.insert_ranked.result ≤ length (rows_of less) = (let l = counted less in let h = c.insert_ranked.ensures.within in omega arith) in
     let windows = c.args.plan.now.windows in
     record {
       windows = windows_inserted (rows_of less) (rows_of c.insert_ranked.new.table) c.insert_ranked.result c.row-row.result c.insert_ranked.ensures.rows most
@@ -38,8 +38,8 @@ invariant_of-plan g c =
     let p = c.in_ok-from.from in
     let q = c.insert_ranked.result in
     let r = c.row-row.result in
-    let within : p < length rows = (let l = rows_count table.rows table.count table.whole table.few in let h = c.in_ok-from.ensures.cases.1 in omega arith) in
-    let most : q ≤ length rest = (let l = rows_count less.rows less.count less.whole less.few in let h = c.insert_ranked.ensures.within in omega arith) in
+    let within : p < length rows = (let l = counted table in let h = c.in_ok-from.ensures.cases.1 in omega arith) in
+    let most : q ≤ length rest = (let l = counted less in let h = c.insert_ranked.ensures.within in omega arith) in
     let is = sym c.row-row.ensures.value in
     let cut = c.remove_ranked.ensures.rows in
     let put = c.insert_ranked.ensures.rows in
@@ -60,8 +60,8 @@ answer-answered-requires g c =
     let found = c.in_ok-from.ensures.cases in
     let p = c.in_ok-from.from in
     let q = c.insert_ranked.result in
-    let within : p < length rows = (let l = rows_count table.rows table.count table.whole table.few in let h = found.1 in omega arith) in
-    let most : q ≤ length rest = (let l = rows_count less.rows less.count less.whole less.few in let h = c.insert_ranked.ensures.within in omega arith) in
+    let within : p < length rows = (let l = counted table in let h = found.1 in omega arith) in
+    let most : q ≤ length rest = (let l = counted less in let h = c.insert_ranked.ensures.within in omega arith) in
     stay_on rows rest after c.args.number
     (less_stay rest rows p c.args.number (withdraw_more rows rest rest p within c.remove_ranked.ensures.rows (same_itself rest)) found.2)
     (more_stay rest after q c.args.number (offer_more rest (rows_of c.insert_ranked.new.table) after q c.row-row.result most c.insert_ranked.ensures.rows c.replan.ensures.same).0)
@@ -84,11 +84,11 @@ returns g c =
     let q = c.insert_ranked.result in
     let is = c.row-row.ensures.value in
     let h = found.1 in
-    let long = rows_count table.rows table.count table.whole table.few in
+    let long = counted table in
     let within : p < length rows = omega arith in
-    let most : q ≤ length (rows_of less) = (let l = rows_count less.rows less.count less.whole less.few in let x = c.insert_ranked.ensures.within in omega arith) in
+    let most : q ≤ length (rows_of less) = (let l = counted less in let x = c.insert_ranked.ensures.within in omega arith) in
     let size : length (rows_of more) ≡ (table.count - 1) + 1 =
-    rows_count more.rows more.count more.whole more.few ∙ (c.insert_ranked.ensures.count ∙ ap (λ (k : ℕ). k + 1) c.remove_ranked.ensures.count) in
+    counted more ∙ (c.insert_ranked.ensures.count ∙ ap (λ (k : ℕ). k + 1) c.remove_ranked.ensures.count) in
     let k = table.count - 1 in
     let put : drop (k + 1) shelf ≡ drop (k + 1) rack = subst (λ (i : ℕ). drop (i + 1) shelf ≡ drop (i + 1) rack) c.remove_ranked.ensures.count c.insert_ranked.ensures.leaves in
     let rest : drop (k + 1) shelf ≡ drop (k + 1) store = put ∙ (sym (drop-drop 1 k rack) ∙ (ap (drop 1) c.remove_ranked.ensures.leaves ∙ drop-drop 1 k store)) in
@@ -98,7 +98,7 @@ returns g c =
           q w (rows_of less) rack
           (name_allowed (heavier_then_lower no_lighter) rows store (Reweigh n w) n (λ f x. x) (λ x. x) found.0 (λ absent. absent p within found.2))
           (record {
-            few = (let l = rows_count last.rows last.count last.whole last.few in let f = last.few in omega arith);
+            few = (let l = counted last in let f = last.few in omega arith);
             apart = distinct_apart (rows_of last) last.distinct;
             ordered = c.insert_ranked.ensures.order;
             same = c.replan.ensures.same;

@@ -1,14 +1,20 @@
-use Rattle.std.proofs.Common.{◌<◌, arith, rules}
-use Rattle.std.proofs.lemmas.List.{get_or-take, length-take}
-use Rattle.placing.specs.Placing.{blank}
+use Rattle.std.proofs.Common.{◌≡◌, ◌<◌, length, ap, ◌∙◌, subst, rules}
+use borrow.Author.Tests.{tests}
+use Rattle.std.specs.Prelude.{MatchOption}
+use Rattle.jobs.specs.declared.terms.Standing.TheVariants.{Absent}
+use Rattle.placing.specs.Placing.{row}
+use Rattle.placing.specs.Plan.{Stands}
+use Rattle.std.proofs.lemmas.Iterator.{IsFirst-from_position, YieldsList-from_slice}
+use Rattle.plan.proofs.Rows.{found_first, counted}
 use Rattle.plan.proofs.table.Table.find.Goals as goal
 
-pub returns-then-self-rank : goal.returns-then-self-rank
-returns-then-self-rank c = record { cases = (search rules, rw (get_or-take c.args.self.now.count c.args.self.now.rows c.loop-rank.rank blank c.loop-rank-test.true) (search rules)) }
-
 pub returns : goal.returns
-returns c = record {
-  cases = λ i h e.
-      let l : i < c.args.self.now.count = omega (arith, length-take c.args.self.now.count c.args.self.now.rows) in
-      c.loop-rank.invariant i (omega arith) (rw (get_or-take c.args.self.now.count c.args.self.now.rows i blank l) at e);
-}
+returns c =
+    let n = c.args.number in
+    let table = c.args.self.now in
+    let first = IsFirst-from_position _ _ c.position.result (λ r. r.number ≡ n) (λ r. r.number ≡ n → ⊥) c.position.ensures.ran (YieldsList-from_slice c.rows.result.now (search rules)) (λ x q k. search (rules, tests)) (λ x q k. search (rules, tests)) in
+    let is = c.rows.ensures.value in
+    record {
+      cases = subst (λ rows. MatchOption c.position.result (Stands rows n Absent) (λ rank. (rank < table.count) × ((row rows rank).number ≡ n))) is
+          (found_first c.rows.result.now n table.count c.position.result (ap length is ∙ counted table) first);
+    }
