@@ -1,9 +1,10 @@
 -- The lines of a text, and the calls ahead, from its first line on.
 use Rattle.std.proofs.Common.{◌≡◌, ℕ, ◌<◌, Bool, true, false, cond, eqb, List, [], ◌∷◌, ◌++◌, map, length, Some, None, Option, sym, refl, ap, ◌∙◌, arith}
 use Rattle.std.proofs.lemmas.List.{append-nil, append_assoc, map_push}
+use Rattle.std.specs.Option.{option_map}
 use Rattle.calls.specs.declared.terms.Call.{Call}
 use Rattle.account.specs.declared.terms.Command.{Command}
-use Rattle.account.specs.declared.terms.Command.TheVariants.{Make}
+use Rattle.account.specs.declared.terms.Command.TheVariants.{Make, NoWeight, Ask}
 use Rattle.account.specs.Words.{behind, cut_at, line_from, rest_from, line_of, rest_of, on_first, lines_of}
 use Rattle.account.specs.Commands.{command_figures, call_figures, command_in, call_before, calls_ahead}
 
@@ -37,24 +38,25 @@ module _ {W : Type 0} (figures : W → List ℕ) (figures_in : List ℕ → Opti
   opened = before ∙ ap (λ l. map (call_figures figures) calls ++ calls_ahead figures_in l) (lines_first text some)
 
   -- one call more
-  pub ahead_more : (found : Command W) (call : Call W) (more : List (Call W)) (line rest : List ℕ) → line ≡ line_of text → rest ≡ rest_of text → found ≡ Make call → Some (command_figures figures found) ≡ command_in figures_in line → more ≡ calls ++ call ∷ []
+  pub ahead_more : (call : Call W) (more : List (Call W)) (line rest : List ℕ) → line ≡ line_of text → rest ≡ rest_of text → Some (Make (call_figures figures call)) ≡ command_in figures_in line → more ≡ calls ++ call ∷ []
       → whole ≡ map (call_figures figures) more ++ calls_ahead figures_in (lines_of rest)
-  ahead_more found call more line rest l r is e m =
+  ahead_more call more line rest l r e m =
       opened
       ∙ ap (λ o. map (call_figures figures) calls ++ call_before o (calls_ahead figures_in (lines_of (rest_of text)))) (sym (e ∙ ap (command_in figures_in) l))
-      ∙ ap (λ k. map (call_figures figures) calls ++ call_before (Some (command_figures figures k)) (calls_ahead figures_in (lines_of (rest_of text)))) is
       ∙ sym (append_assoc (map (call_figures figures) calls) (call_figures figures call ∷ []) (calls_ahead figures_in (lines_of (rest_of text))))
       ∙ ap (λ cs. cs ++ calls_ahead figures_in (lines_of (rest_of text))) (sym (ap (map (call_figures figures)) m ∙ map_push (call_figures figures) calls call))
       ∙ ap (λ t. map (call_figures figures) more ++ calls_ahead figures_in (lines_of t)) (sym r)
 
   -- a line that is no call ends them
-  pub ahead_end : (o : Option (Command (List ℕ))) (line : List ℕ) → line ≡ line_of text → o ≡ command_in figures_in line → call_before o (calls_ahead figures_in (lines_of (rest_of text))) ≡ [] → map (call_figures figures) calls ≡ whole
-  ahead_end o line l e none =
+  pub ahead_end : (o : Option (Command W)) (line : List ℕ) → line ≡ line_of text → option_map (command_figures figures) o ≡ command_in figures_in line → ((call : Call W) → o ≡ Some (Make call) → ⊥) → map (call_figures figures) calls ≡ whole
+  ahead_end o line l e other =
       sym (opened
       ∙ ap (λ q. map (call_figures figures) calls ++ call_before q (calls_ahead figures_in (lines_of (rest_of text)))) (sym (e ∙ ap (command_in figures_in) l))
-      ∙ ap (λ cs. map (call_figures figures) calls ++ cs) none
+      ∙ ap (λ cs. map (call_figures figures) calls ++ cs) (none o other)
       ∙ append-nil (map (call_figures figures) calls))
-
-  pub ahead_other : (found other : Command W) (line : List ℕ) → line ≡ line_of text → found ≡ other → Some (command_figures figures found) ≡ command_in figures_in line
-      → call_before (Some (command_figures figures other)) (calls_ahead figures_in (lines_of (rest_of text))) ≡ [] → map (call_figures figures) calls ≡ whole
-  ahead_other found other line l is e none = ahead_end (Some (command_figures figures other)) line l (sym (ap (λ k. Some (command_figures figures k)) is) ∙ e) none
+    where
+      none : (o : Option (Command W)) → ((call : Call W) → o ≡ Some (Make call) → ⊥) → call_before (option_map (command_figures figures) o) (calls_ahead figures_in (lines_of (rest_of text))) ≡ []
+      none None other = refl
+      none (Some (Make call)) other = absurd (other call refl)
+      none (Some (NoWeight f)) other = refl
+      none (Some (Ask question)) other = refl

@@ -1,51 +1,41 @@
--- Masks read from the front of a list of them.
-use Rattle.std.proofs.Common.{◌≡◌, ℕ, Bool, true, false, cond, eqb, List, [], ◌∷◌, ◌++◌, Some, None, Option, sym, refl, ap, ◌∙◌}
-use Rattle.std.proofs.lemmas.List.{append_assoc}
+-- Masks read word by word.
+use Rattle.std.proofs.Common.{◌≡◌, ℕ, zero, suc, ◌<◌, cond, eqb, List, [], ◌∷◌, ◌++◌, length, get_or, Some, None, Option, sym, refl, ap, ◌∙◌, arith}
+use Rattle.std.specs.List.{slice_split}
 use Rattle.account.specs.Numbers.{mask_of}
 use Rattle.account.specs.Weights.{and_then}
-use Rattle.account.specs.Words.{behind, cut_at, on_first}
+use Rattle.account.specs.Words.{on_first}
 use Rattle.account.specs.Settings.{words_of, masks_of}
 
-abbrev pub behind_masks : List ℕ → Option (List ℕ) → Option (List ℕ)
-behind_masks front None = None
-behind_masks front (Some masks) = Some (front ++ masks)
+-- the words are the parts between the spaces
+pub split_words : (text : List ℕ) → slice_split (λ x. eqb x 32) text ≡ words_of text
+split_words [] = refl
+split_words (x ∷ xs) = ap (λ ws. cond (eqb x 32) ([] ∷ ws) (on_first x ws)) (split_words xs)
 
--- the words, from where the text is cut
-abbrev pub words_from : List ℕ → Option (List ℕ × List ℕ) → List (List ℕ)
-words_from text None = text ∷ []
-words_from text (Some p) = p.0 ∷ words_of p.1
-
-pub words_cut : (text : List ℕ) → words_of text ≡ words_from text (cut_at 32 text)
-words_cut [] = refl
-words_cut (x ∷ xs) = at (words_cut xs) (eqb x 32)
+-- one word more
+pub masks_push : (words : List (List ℕ)) (masks : List ℕ) (word : List ℕ) (m : ℕ) → masks_of words ≡ Some masks → Some m ≡ mask_of word → masks_of (words ++ word ∷ []) ≡ Some (masks ++ m ∷ [])
+masks_push words masks word m e is = more words ∙ ap (λ o. and_then o (λ ms. Some (ms ++ m ∷ []))) e
   where
-    first : (o : Option (List ℕ × List ℕ)) → on_first x (words_from xs o) ≡ words_from (x ∷ xs) (behind x o)
-    first None = refl
-    first (Some p) = refl
+    last : masks_of (word ∷ []) ≡ Some (m ∷ [])
+    last = ap (λ o. and_then o (λ k. Some (k ∷ []))) (sym is)
 
-    at : words_of xs ≡ words_from xs (cut_at 32 xs) → (b : Bool) → cond b ([] ∷ words_of xs) (on_first x (words_of xs)) ≡ words_from (x ∷ xs) (cond b (Some ([], xs)) (behind x (cut_at 32 xs)))
-    at e true = refl
-    at e false = ap (on_first x) e ∙ first (cut_at 32 xs)
+    inner : (k : ℕ) (o : Option (List ℕ)) → and_then (and_then o (λ ms. Some (ms ++ m ∷ []))) (λ ms. Some (k ∷ ms)) ≡ and_then (and_then o (λ ms. Some (k ∷ ms))) (λ ms. Some (ms ++ m ∷ []))
+    inner k None = refl
+    inner k (Some ms) = refl
 
-pub masks_none : (o : Option (List ℕ)) → o ≡ behind_masks [] o
-masks_none None = refl
-masks_none (Some masks) = refl
+    outer : (q : Option ℕ) (o : Option (List ℕ)) → and_then q (λ k. and_then (and_then o (λ ms. Some (ms ++ m ∷ []))) (λ ms. Some (k ∷ ms))) ≡ and_then (and_then q (λ k. and_then o (λ ms. Some (k ∷ ms)))) (λ ms. Some (ms ++ m ∷ []))
+    outer None o = refl
+    outer (Some k) o = inner k o
 
-pub masks_more : (front word : List ℕ) (m : ℕ) (words : List (List ℕ)) → mask_of word ≡ Some m → behind_masks front (masks_of (word ∷ words)) ≡ behind_masks (front ++ m ∷ []) (masks_of words)
-masks_more front word m words e =
-    ap (λ o. behind_masks front (and_then o (λ k. and_then (masks_of words) (λ ms. Some (k ∷ ms))))) e ∙ at (masks_of words)
+    more : (ws : List (List ℕ)) → masks_of (ws ++ word ∷ []) ≡ and_then (masks_of ws) (λ ms. Some (ms ++ m ∷ []))
+    more [] = last
+    more (w ∷ ws) = ap (λ o. and_then (mask_of w) (λ k. and_then o (λ ms. Some (k ∷ ms)))) (more ws) ∙ outer (mask_of w) (masks_of ws)
+
+-- a word that is no mask
+pub masks_stop : (words : List (List ℕ)) (i : ℕ) (d : List ℕ) → i < length words → None ≡ mask_of (get_or words i d) → masks_of words ≡ None
+masks_stop [] i d h e = absurd (omega arith)
+masks_stop (w ∷ ws) zero d h e = ap (λ o. and_then o (λ m. and_then (masks_of ws) (λ ms. Some (m ∷ ms)))) (sym e)
+masks_stop (w ∷ ws) (suc i) d h e = at (mask_of w) (masks_stop ws i d (omega arith) e)
   where
-    at : (o : Option (List ℕ)) → behind_masks front (and_then o (λ ms. Some (m ∷ ms))) ≡ behind_masks (front ++ m ∷ []) o
-    at None = refl
-    at (Some ms) = ap Some (sym (append_assoc front (m ∷ []) ms))
-
-module _ (front text word after : List ℕ) (is : Some (word, after) ≡ cut_at 32 text) where
-  cut_words : words_of text ≡ word ∷ words_of after
-  cut_words = words_cut text ∙ ap (words_from text) (sym is)
-
-  pub masks_step : (m : ℕ) → Some m ≡ mask_of word → behind_masks front (masks_of (words_of text)) ≡ behind_masks (front ++ m ∷ []) (masks_of (words_of after))
-  masks_step m e = ap (λ ws. behind_masks front (masks_of ws)) cut_words ∙ masks_more front word m (words_of after) (sym e)
-
-  pub masks_stop : None ≡ mask_of word → behind_masks front (masks_of (words_of text)) ≡ None
-  masks_stop e =
-      ap (λ ws. behind_masks front (masks_of ws)) cut_words ∙ ap (λ o. behind_masks front (and_then o (λ k. and_then (masks_of (words_of after)) (λ ms. Some (k ∷ ms))))) (sym e)
+    at : (o : Option ℕ) → masks_of ws ≡ None → and_then o (λ m. and_then (masks_of ws) (λ ms. Some (m ∷ ms))) ≡ None
+    at None none = refl
+    at (Some m) none = ap (λ o. and_then o (λ ms. Some (m ∷ ms))) none

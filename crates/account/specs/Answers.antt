@@ -5,12 +5,13 @@ use Rattle.std.specs.Prelude.{◌≡◌, ℕ, List, [], ◌∷◌, ◌++◌, Opt
 use Rattle.jobs.specs.declared.terms.Row.{Row}
 use Rattle.jobs.specs.declared.terms.Seat as seats
 use Rattle.jobs.specs.declared.terms.Standing as standings
+use Rattle.jobs.specs.Printed.{standing_text}
 use Rattle.placing.specs.Plan.{Stands}
 use Rattle.calls.specs.declared.terms.StretchFault.{StretchFault}
 use Rattle.calls.specs.Questions.{SeatOf, StretchOf}
 use Rattle.account.specs.declared.terms.Question.{Question}
 use Rattle.account.specs.declared.terms.Question.TheVariants.{Standing, Seat, Stretch, Tally, Print}
-use Rattle.account.specs.Texts.{standing_text, seat_text, stretch_text, row_line}
+use Rattle.account.specs.Texts.{seat_text, stretch_text, row_line}
 
 abbrev pub Printed : (all rows : List Row) → List ℕ → Type 0
 Printed all [] text = text ≡ []

@@ -8,8 +8,8 @@
 use Rattle.std.specs.Prelude.{ℕ, cond, ◌⊎◌, List, [], ◌∷◌, Some, None, vec_items, codes, Option, ◌==◌}
 use Rattle.std.proofs.Common.{inl, inr}
 use Rattle.std.specs.Str.{bytes_eq}
-use Rattle.account.specs.declared.terms.Kind.{Kind}
-use Rattle.account.specs.declared.terms.Kind.TheVariants.{Points, Classed, Share}
+use Rattle.sheets.specs.declared.kind.Kind.{Kind}
+use Rattle.sheets.specs.declared.kind.Kind.TheVariants.{Points, Classed, Share}
 use Rattle.account.specs.declared.terms.Base.{Base}
 use Rattle.account.specs.declared.terms.Base.TheVariants.{Even, Listed}
 use Rattle.account.specs.declared.terms.Closed.{Closed}

@@ -1,17 +1,15 @@
 -- The text of each answer. Assumes nothing.
 --   refused_text n               a refusal
 --   answer_text answer           what a call answers
---   standing_text s              kept, dropped or absent
 --   seat_text seat               a slot and a link, or none
 --   stretch_text s               a stretch, or why there is none
 --   row_line row stretch         a line of the printed plan
 --   answered_line line answer    a command as it stands, and its answer
 --   run_text text answers        the calls whose lines begin the text, each with its answer
-use Rattle.std.specs.Prelude.{ℕ, Bool, true, false, List, [], ◌∷◌, ◌++◌, Some, None, Ok, Err, codes, decimal, Option, Result, slice_index}
+use Rattle.std.specs.Prelude.{ℕ, Bool, true, false, List, [], ◌∷◌, ◌++◌, Some, None, Ok, Err, codes, decimal, Option, Result}
 use Rattle.jobs.specs.declared.terms.Row.{Row}
 use Rattle.jobs.specs.declared.terms.Seat.{Seat}
-use Rattle.jobs.specs.declared.terms.Standing.{Standing}
-use Rattle.jobs.specs.declared.terms.Standing.TheVariants.{Kept, Dropped, Absent}
+use Rattle.jobs.specs.Printed.{place_text}
 use Rattle.calls.specs.declared.terms.CallFault.{CallFault}
 use Rattle.calls.specs.declared.terms.StretchFault.{StretchFault}
 use Rattle.calls.specs.Faults.{call_fault_number, stretch_fault_number}
@@ -33,14 +31,9 @@ abbrev pub answer_text : Result (Bool × Option ℕ) CallFault → List ℕ
 answer_text (Ok p) = kept_text p.0 ++ (codes " " ++ other_text p.1)
 answer_text (Err fault) = refused_text (call_fault_number fault)
 
-abbrev pub standing_text : Standing → List ℕ
-standing_text Kept = codes "kept"
-standing_text Dropped = codes "dropped"
-standing_text Absent = codes "absent"
-
 abbrev pub seat_text : Option Seat → List ℕ
 seat_text None = codes "none"
-seat_text (Some seat) = decimal seat.slot ++ (codes " " ++ decimal seat.link)
+seat_text (Some seat) = place_text seat
 
 -- the first slot and the slot after the last
 abbrev pub stretch_text : Result (ℕ × ℕ) StretchFault → List ℕ
@@ -67,11 +60,6 @@ counts_text kept dropped = codes "kept " ++ (decimal kept ++ (codes " dropped " 
 abbrev pub totals_text : (kept dropped : ℕ) (total_of_kept total_of_dropped : List ℕ) → List ℕ
 totals_text kept dropped total_of_kept total_of_dropped =
     codes "kept " ++ (decimal kept ++ (codes " dropped " ++ (decimal dropped ++ (codes " total " ++ (total_of_kept ++ (codes " " ++ total_of_dropped))))))
-
--- five sums, from class D down
-abbrev pub sums_text : List ℕ → List ℕ
-sums_text sums =
-    decimal (slice_index sums 0) ++ (codes "/" ++ (decimal (slice_index sums 1) ++ (codes "/" ++ (decimal (slice_index sums 2) ++ (codes "/" ++ (decimal (slice_index sums 3) ++ (codes "/" ++ decimal (slice_index sums 4))))))))
 
 -- a command as it stands, and its answer
 abbrev pub answered_line : (line answer : List ℕ) → List ℕ

@@ -3,9 +3,9 @@ ghost use Rattle.std.specs.Prelude.{IfOk, string_bytes};
 ghost use Rattle.plan.specs.Plans.{rows_in};
 ghost use Rattle.account.specs.Answers.{Printed, AnswerTo};
 
-use crate::tally::TalliedWeight;
+use crate::tally::{TalliedWeight, Tallying};
 use crate::terms::Question;
-use crate::text::{row_line, seat_text, standing_text, stretch_text};
+use crate::text::{row_line, seat_text, stretch_text};
 use plan::Plan;
 use std::alloc::{AllocError, Global};
 
@@ -31,10 +31,10 @@ pub(crate) fn question_text<W: TalliedWeight>(
     ensures { IfOk result (λ t. AnswerTo (rows_in plan.now) question (string_bytes t)) }
 {
     match question {
-        Question::Standing(number) => String::from_str(heap, standing_text(plan.standing(number))),
+        Question::Standing(number) => plan.standing(number).to_string(heap),
         Question::Seat(number) => seat_text(heap, plan.seat(number)),
         Question::Stretch(number) => stretch_text(heap, plan.stretch(number)),
-        Question::Tally => W::tally_text(heap, plan, store),
+        Question::Tally => W::Tallies::tally_text(heap, plan, store),
         Question::Print => plan_text(heap, plan),
     }
 }

@@ -1,20 +1,18 @@
 // A day of planning: the commands of a script in turn, each run of calls replayed at once.
-ghost use Rattle.std.specs.Prelude.{◌≡◌, IfOk, vec_len};
+ghost use Rattle.std.specs.Prelude.{◌≡◌, IfOk};
 ghost use Rattle.account.specs.Texts.{run_text};
 
 use crate::asking::question_text;
 use crate::output::{end_at, put, say_refused};
 use crate::reading::{calls_ahead, command};
-use crate::tally::TalliedWeight;
+use crate::tally::{TalliedWeight, Tallying};
 use crate::terms::{Command, Question};
 use crate::text::{answer_text, answered, listed};
 use crate::words::{next_line, past_lines};
-use anyhow::anyhow;
 use calendars::calendar::Calendar;
 use calls::terms::{Answer, Call};
 use plan::Plan;
 use std::alloc::{AllocError, Global};
-use weights::kind::OrderedWeight;
 
 // Answers a question about the plan.
 fn ask<W: TalliedWeight>(
@@ -59,7 +57,7 @@ fn run_made<W: TalliedWeight, C: Calendar>(
 ) -> Result<Vec<u8>, AllocError> {
     let unanswered: Answer = Ok((false, None));
     let mut answers = vec![in heap; unanswered; calls.len()]?;
-    let _ = W::replayed(plan, calendar, store, calls, answers.as_mut_slice());
+    let _ = W::Tallies::replayed(plan, calendar, store, calls, answers.as_mut_slice());
     run_text(heap, text, answers.as_slice())
 }
 
@@ -83,17 +81,6 @@ fn make_run<W: TalliedWeight, C: Calendar>(
     put(rt, said.as_slice())
 }
 
-// A weight store of 256 entries, all alike.
-fn store_of<W: OrderedWeight>(heap: Global, weight: W) -> Result<Vec<W>, AllocError>
-    ensures { IfOk result (λ v. vec_len v ≡ 256) }
-{
-    let mut store = Vec::new(heap);
-    for _ in 0..256usize {
-        store.push(weight)?;
-    }
-    Ok(store)
-}
-
 // The day of a script whose first line has that number.
 pub(crate) fn day<W: TalliedWeight, C: Calendar>(
     rt: &HostRuntime,
@@ -101,13 +88,11 @@ pub(crate) fn day<W: TalliedWeight, C: Calendar>(
     script: &[u8],
     first: u64,
 ) -> anyhow::Result<()> {
-    let Ok(example) = W::example() else {
-        return Err(anyhow!("no weight of the kind"));
-    };
-    let mut store = store_of(rt.alloc(), example)?;
+    let mut store = vec![in rt.alloc(); W::default(); 256]?;
     let mut plan = Plan::open();
     let mut rest = script;
     let mut number = first;
+    // No iterator of lines: a turn takes a run's lines, and then one more.
     while !rest.is_empty() {
         let calls = calls_ahead::<W>(rt.alloc(), rest)?;
         make_run(rt, &mut plan, calendar, &mut store, &calls, rest)?;

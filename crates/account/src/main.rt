@@ -1,8 +1,6 @@
 // Performs a day of planning from a script on standard input, and prints an account of it.
 #![tactic(auto)]
 
-ghost use Rattle.std.specs.Prelude.{◌≤◌, length, IfOk};
-
 mod asking;
 mod day;
 mod numbers;
@@ -17,36 +15,19 @@ mod words;
 mod written;
 
 use anyhow::anyhow;
+use intake::read_front;
 use kinds::classed::Classed;
 use kinds::points::Points;
 use kinds::share::Share;
 use output::{end_at, say};
 use settings::kind;
+use sheets::kind::Kind;
 use stages::from_calendar;
-use std::io;
-use std::io::Read;
 use tally::TalliedWeight;
-use terms::Kind;
-use weights::kind::OrderedWeight;
 use words::next_line;
 
 // The longest script that is performed: 1 MiB.
 const LONGEST: usize = 1048576;
-
-// The input's front, as far as the buffer reaches: how many bytes there were.
-fn read_front(input: &mut impl Read, script: &mut [u8]) -> io::Result<usize>
-    ensures { IfOk result (λ len. len ≤ length script.old) }
-{
-    let mut len = 0;
-    for _ in 0..script.len() {
-        let got = input.read(&mut script[len..])?;
-        if got == 0 {
-            break;
-        }
-        len += got;
-    }
-    Ok(len)
-}
 
 // The account of a script, from its first line on. A script with no line has an empty account.
 fn account(rt: &HostRuntime, script: &[u8]) -> anyhow::Result<()> {

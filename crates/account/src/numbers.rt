@@ -3,6 +3,7 @@ ghost use Rattle.std.specs.Prelude.{◌≡◌};
 ghost use Rattle.account.specs.Numbers.{number_of, hex_of, mask_of};
 
 // The number that the digits write; None where the text is no digits, or the number is beyond `most`.
+// Read digit by digit, since `str::parse` takes a plus sign too.
 fn number_up_to(text: &[u8], most: u32) -> Option<u32>
     ensures { result ≡ number_of most text.now }
 {
@@ -10,11 +11,11 @@ fn number_up_to(text: &[u8], most: u32) -> Option<u32>
         return None;
     }
     let mut value = 0u64;
-    for digit in text {
-        if *digit < b'0' || *digit > b'9' {
+    for byte in text {
+        if !byte.is_ascii_digit() {
             return None;
         }
-        value = 10 * value + (*digit - b'0') as u64;
+        value = 10 * value + (*byte - b'0') as u64;
         if value > most as u64 {
             return None;
         }
@@ -33,22 +34,16 @@ pub(crate) fn long_number(text: &[u8]) -> Option<u32>
 pub(crate) fn number(text: &[u8]) -> Option<u16>
     ensures { result ≡ number_of 65535 text.now }
 {
-    match number_up_to(text, 65535) {
-        Some(value) => Some(value as u16),
-        None => None,
-    }
+    let value = number_up_to(text, 65535)?;
+    Some(value as u16)
 }
 
 // What a hexadecimal digit of either case is worth.
 fn hex_digit(digit: u8) -> Option<u8>
     ensures { result ≡ hex_of digit }
 {
-    match digit {
-        b'0'..=b'9' => Some(digit - b'0'),
-        b'A'..=b'F' => Some(digit - b'A' + 10),
-        b'a'..=b'f' => Some(digit - b'a' + 10),
-        _ => None,
-    }
+    let worth = (digit as char).to_digit(16)?;
+    Some(worth as u8)
 }
 
 // The mask that one or two hexadecimal digits write.
@@ -57,11 +52,7 @@ pub(crate) fn mask(text: &[u8]) -> Option<u8>
 {
     match text {
         [low] => hex_digit(*low),
-        [high, low] => {
-            let high = hex_digit(*high)?;
-            let low = hex_digit(*low)?;
-            Some(16 * high + low)
-        }
+        [high, low] => Some(16 * hex_digit(*high)? + hex_digit(*low)?),
         _ => None,
     }
 }

@@ -58,6 +58,7 @@ fn reweigh<W: WrittenWeight>(text: &[u8]) -> Option<Command<W>>
 }
 
 // A call from its name and what follows it.
+// By `if`: a `match` on b"offer" and the others was tried, and the proof of its last arm did not close.
 fn call<W: WrittenWeight>(name: &[u8], text: &[u8]) -> Option<Command<W>>
     ensures { option_map (command_figures W.WrittenWeight.figures) result ≡ call_in W.WrittenWeight.figures_in name.now text.now }
 {
@@ -78,14 +79,11 @@ fn question(name: &[u8], text: &[u8]) -> Option<Question>
     ensures { result ≡ question_in name.now text.now }
 {
     let job = number(text)?;
-    if is_word(name, "standing") {
-        Some(Question::Standing(job))
-    } else if is_word(name, "seat") {
-        Some(Question::Seat(job))
-    } else if is_word(name, "stretch") {
-        Some(Question::Stretch(job))
-    } else {
-        None
+    match name {
+        b"standing" => Some(Question::Standing(job)),
+        b"seat" => Some(Question::Seat(job)),
+        b"stretch" => Some(Question::Stretch(job)),
+        _ => None,
     }
 }
 
@@ -93,12 +91,10 @@ fn question(name: &[u8], text: &[u8]) -> Option<Question>
 fn lone_question(line: &[u8]) -> Option<Question>
     ensures { result ≡ alone line.now }
 {
-    if is_word(line, "tally") {
-        Some(Question::Tally)
-    } else if is_word(line, "print") {
-        Some(Question::Print)
-    } else {
-        None
+    match line {
+        b"tally" => Some(Question::Tally),
+        b"print" => Some(Question::Print),
+        _ => None,
     }
 }
 
@@ -106,18 +102,12 @@ fn lone_question(line: &[u8]) -> Option<Question>
 pub(crate) fn command<W: WrittenWeight>(line: &[u8]) -> Option<Command<W>>
     ensures { option_map (command_figures W.WrittenWeight.figures) result ≡ command_in W.WrittenWeight.figures_in line.now }
 {
-    let Some((name, text)) = cut(line, b' ') else {
-        return match lone_question(line) {
-            Some(question) => Some(Command::Ask(question)),
-            None => None,
-        };
-    };
-    if let Some(command) = call::<W>(name, text) {
-        return Some(command);
-    }
-    match question(name, text) {
-        Some(question) => Some(Command::Ask(question)),
-        None => None,
+    match cut(line, b' ') {
+        Some((name, text)) => match call::<W>(name, text) {
+            Some(command) => Some(command),
+            None => Some(Command::Ask(question(name, text)?)),
+        },
+        None => Some(Command::Ask(lone_question(line)?)),
     }
 }
 
@@ -130,16 +120,13 @@ pub(crate) fn calls_ahead<W: WrittenWeight>(
 {
     let mut calls = Vec::new(heap);
     let mut rest = text;
+    // No iterator of lines: the other loops over them need the text that is left.
     while !rest.is_empty() {
         let (line, after) = next_line(rest);
-        let Some(found) = command::<W>(line) else {
+        let Some(Command::Make(call)) = command::<W>(line) else {
             return Ok(calls);
         };
-        match found {
-            Command::Make(call) => calls.push(call)?,
-            Command::NoWeight(_) => return Ok(calls),
-            Command::Ask(_) => return Ok(calls),
-        }
+        calls.push(call)?;
         rest = after;
     }
     Ok(calls)

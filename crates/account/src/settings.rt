@@ -1,25 +1,23 @@
 // The lines that set a script up, read. None where a line is none of them.
 ghost use Rattle.std.specs.Prelude.{◌≡◌, IfOk, vec_items};
 ghost use Rattle.std.specs.Option.{option_map};
-ghost use Rattle.account.specs.Settings.{kind_of, kind_in, words_of, masks_of, even_in, form_in, base_in, base_figures, stretch_in, closed_in};
+ghost use Rattle.account.specs.Settings.{kind_of, kind_in, words_of, masks_of, even_in, even_base, form_in, base_in, base_figures, stretch_in, closed_in};
 
 use crate::numbers::{mask, number};
-use crate::terms::{Base, Closed, Kind};
+use crate::terms::{Base, Closed};
 use crate::words::{cut, is_word};
+use sheets::kind::Kind;
 use std::alloc::{AllocError, Global};
 
 // The kind of that name.
 fn kind_named(name: &[u8]) -> Option<Kind>
     ensures { result ≡ kind_of name.now }
 {
-    if is_word(name, "points") {
-        Some(Kind::Points)
-    } else if is_word(name, "classed") {
-        Some(Kind::Classed)
-    } else if is_word(name, "share") {
-        Some(Kind::Share)
-    } else {
-        None
+    match name {
+        b"points" => Some(Kind::Points),
+        b"classed" => Some(Kind::Classed),
+        b"share" => Some(Kind::Share),
+        _ => None,
     }
 }
 
@@ -27,22 +25,20 @@ fn kind_named(name: &[u8]) -> Option<Kind>
 pub(crate) fn kind(line: &[u8]) -> Option<Kind>
     ensures { result ≡ kind_in line.now }
 {
-    let (word, name) = cut(line, b' ')?;
-    if is_word(word, "kind") {
-        kind_named(name)
-    } else {
-        None
+    match cut(line, b' ')? {
+        (word, name) if is_word(word, "kind") => kind_named(name),
+        _ => None,
     }
 }
 
 // Links and end, with a space between.
-fn even(text: &[u8]) -> Option<(u16, u16)>
-    ensures { result ≡ even_in text.now }
+fn even(text: &[u8]) -> Option<Base>
+    ensures { option_map base_figures result ≡ even_base (even_in text.now) }
 {
     let (links, end) = cut(text, b' ')?;
     let links = number(links)?;
     let end = number(end)?;
-    Some((links, end))
+    Some(Base::Even { links, end })
 }
 
 // One mask or more, with a space between.
@@ -50,18 +46,12 @@ fn masks(heap: Global, text: &[u8]) -> Result<Option<Vec<u8>>, AllocError>
     ensures { IfOk result (λ o. option_map vec_items o ≡ masks_of (words_of text.now)) }
 {
     let mut masks = Vec::new(heap);
-    let mut rest = text;
-    while let Some((word, after)) = cut(rest, b' ') {
+    for word in text.split(|byte| *byte == b' ') {
         let Some(mask) = mask(word) else {
             return Ok(None);
         };
         masks.push(mask)?;
-        rest = after;
     }
-    let Some(last) = mask(rest) else {
-        return Ok(None);
-    };
-    masks.push(last)?;
     Ok(Some(masks))
 }
 
@@ -72,21 +62,10 @@ fn form(heap: Global, text: &[u8]) -> Result<Option<Base>, AllocError>
     if is_word(text, "listed") {
         return Ok(Some(Base::Listed(Vec::new(heap))));
     }
-    let Some((name, rest)) = cut(text, b' ') else {
-        return Ok(None);
-    };
-    if is_word(name, "even") {
-        let Some((links, end)) = even(rest) else {
-            return Ok(None);
-        };
-        return Ok(Some(Base::Even(links, end)));
-    }
-    if !is_word(name, "listed") {
-        return Ok(None);
-    }
-    match masks(heap, rest)? {
-        Some(masks) => Ok(Some(Base::Listed(masks))),
-        None => Ok(None),
+    match cut(text, b' ') {
+        Some((name, rest)) if is_word(name, "even") => Ok(even(rest)),
+        Some((name, rest)) if is_word(name, "listed") => Ok(masks(heap, rest)?.map(Base::Listed)),
+        _ => Ok(None),
     }
 }
 
@@ -116,10 +95,8 @@ fn stretch(text: &[u8]) -> Option<Closed>
 pub(crate) fn closed(line: &[u8]) -> Option<Closed>
     ensures { result ≡ closed_in line.now }
 {
-    let (name, text) = cut(line, b' ')?;
-    if is_word(name, "closed") {
-        stretch(text)
-    } else {
-        None
+    match cut(line, b' ')? {
+        (name, text) if is_word(name, "closed") => stretch(text),
+        _ => None,
     }
 }

@@ -4,7 +4,7 @@ use crate::output::{end_at, end_refused, say};
 use crate::settings::{base, closed};
 use crate::tally::TalliedWeight;
 use crate::terms::Base;
-use crate::words::{is_word, next_line};
+use crate::words::next_line;
 use calendars::calendar::Calendar;
 use calendars::carried_on::CarriedOn;
 use calendars::closed_stretch::ClosedStretch;
@@ -38,12 +38,14 @@ fn from_carried_on<W: TalliedWeight, C: Calendar>(
     script: &[u8],
 ) -> anyhow::Result<()> {
     let (line, rest) = next_line(script);
-    if !is_word(line, "carried on") {
-        return from_closed::<W, C>(rt, calendar, script, 3);
+    match line {
+        b"carried on" => {
+            say(rt, line, "accepted")?;
+            let calendar = CarriedOn::new(calendar);
+            from_closed::<W, CarriedOn<&C>>(rt, &calendar, rest, 4)
+        }
+        _ => from_closed::<W, C>(rt, calendar, script, 3),
     }
-    say(rt, line, "accepted")?;
-    let calendar = CarriedOn::new(calendar);
-    from_closed::<W, CarriedOn<&C>>(rt, &calendar, rest, 4)
 }
 
 // The calendar of the second line.
@@ -56,7 +58,7 @@ pub(crate) fn from_calendar<W: TalliedWeight>(
     }
     let (line, rest) = next_line(script);
     match base(rt.alloc(), line)? {
-        Some(Base::Even(links, end)) => match Even::new(links.min(255) as u8, end) {
+        Some(Base::Even { links, end }) => match Even::new(links.min(255) as u8, end) {
             Ok(calendar) => {
                 say(rt, line, "accepted")?;
                 from_carried_on::<W, Even>(rt, &calendar, rest)

@@ -21,18 +21,10 @@ pub(crate) enum Command<W> {
     Ask(Question),
 }
 
-// The kind of weight that a script is written in.
-#[derive(Clone, Copy)]
-pub(crate) enum Kind {
-    Points,
-    Classed,
-    Share,
-}
-
 // The calendar that a script begins with: links and end, or the masks.
 #[derive(Drop)]
 pub(crate) enum Base {
-    Even(u16, u16),
+    Even { links: u16, end: u16 },
     Listed(Vec<u8>),
 }
 

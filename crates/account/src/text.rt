@@ -1,10 +1,11 @@
 // The text of each answer.
-ghost use Rattle.std.specs.Prelude.{◌≡◌, IfOk, string_bytes};
-ghost use Rattle.account.specs.Texts.{refused_text, kept_text, answer_text, standing_text, seat_text, stretch_text, kept_line, dropped_line, row_line, counts_text, totals_text, sums_text, wrong_line, answered_line, listed_lines};
+ghost use Rattle.std.specs.Prelude.{◌≡◌, ℕ, List, Some, IfOk, string_bytes};
+ghost use Rattle.account.specs.Texts.{refused_text, kept_text, answer_text, seat_text, stretch_text, kept_line, dropped_line, row_line, counts_text, totals_text, wrong_line, answered_line, listed_lines};
 
 use calls::terms::{Answer, StretchFault};
-use jobs::terms::{Row, Seat, Standing};
+use jobs::terms::{Row, Seat};
 use std::alloc::{AllocError, Global};
+use std::fmt::Display;
 
 // A refusal.
 pub(crate) fn refused_text(heap: Global, number: u8) -> Result<String, AllocError>
@@ -35,23 +36,12 @@ pub(crate) fn answer_text(heap: Global, answer: &Answer) -> Result<String, Alloc
     }
 }
 
-// Where a job stands.
-pub(crate) fn standing_text(standing: Standing) -> &'static str
-    ensures { result.now ≡ standing_text standing }
-{
-    match standing {
-        Standing::Kept => "kept",
-        Standing::Dropped => "dropped",
-        Standing::Absent => "absent",
-    }
-}
-
 // A slot and a link, or none.
 pub(crate) fn seat_text(heap: Global, seat: Option<Seat>) -> Result<String, AllocError>
     ensures { IfOk result (λ t. string_bytes t ≡ seat_text seat) }
 {
     match seat {
-        Some(Seat { slot, link }) => format!(in heap; "{slot} {link}"),
+        Some(seat) => format!(in heap; "{seat}"),
         None => String::from_str(heap, "none"),
     }
 }
@@ -72,8 +62,7 @@ pub(crate) fn stretch_text(
 fn kept_line(heap: Global, number: u16, seat: Seat) -> Result<String, AllocError>
     ensures { IfOk result (λ t. string_bytes t ≡ kept_line number seat) }
 {
-    let place = seat_text(heap, Some(seat))?;
-    format!(in heap; "{number} {place}\n")
+    format!(in heap; "{number} {seat}\n")
 }
 
 fn dropped_line(
@@ -109,24 +98,16 @@ pub(crate) fn counts_text(heap: Global, kept: usize, dropped: usize) -> Result<S
 }
 
 // The same, and both totals.
-pub(crate) fn totals_text(
+pub(crate) fn totals_text<T: Display>(
     heap: Global,
     kept: usize,
     dropped: usize,
-    kept_total: &str,
-    dropped_total: &str,
+    kept_total: &T,
+    dropped_total: &T,
 ) -> Result<String, AllocError>
-    ensures { IfOk result (λ t. string_bytes t ≡ totals_text kept dropped kept_total.now dropped_total.now) }
+    ensures { (k d : List ℕ) → T.output kept_total.now ≡ Some k → T.output dropped_total.now ≡ Some d → IfOk result (λ t. string_bytes t ≡ totals_text kept dropped k d) }
 {
     format!(in heap; "kept {kept} dropped {dropped} total {kept_total} {dropped_total}")
-}
-
-// Five sums, from class D down.
-pub(crate) fn sums_text(heap: Global, sums: [u32; 5]) -> Result<String, AllocError>
-    ensures { IfOk result (λ t. string_bytes t ≡ sums_text sums) }
-{
-    let [d, c, b, a, qm] = sums;
-    format!(in heap; "{d}/{c}/{b}/{a}/{qm}")
 }
 
 // The last line of an account whose script has a line that is no command.

@@ -1,20 +1,23 @@
 // A script cut into lines, and a line into words.
-ghost use Rattle.std.specs.Prelude.{◌≡◌, ◌-◌, ◌<◌, ◌≤◌, length, IfSome};
+ghost use Rattle.std.specs.Prelude.{◌≡◌, ◌-◌, ◌<◌, ◌≤◌, ◌==◌, length, position, IfSome};
 ghost use Rattle.std.specs.Option.{option_map};
 ghost use Rattle.std.specs.Str.{bytes_eq};
 ghost use Rattle.account.specs.Words.{cut_at, line_of, rest_of, rest_after};
+
+// Where the first such byte stands.
+fn first_place(text: &[u8], at: u8) -> Option<usize>
+    ensures { result ≡ position (λ x. x == at) text.now }
+{
+    text.iter().position(|byte| *byte == at)
+}
 
 // What stands before the first such byte, and what behind it; None where there is none.
 pub(crate) fn cut(text: &[u8], at: u8) -> Option<(&[u8], &[u8])>
     ensures value { option_map (λ p. (p.0.now, p.1.now)) result ≡ cut_at at text.now }
     ensures shorter { IfSome result (λ p. length p.1.now < length text.now) }
 {
-    for (i, byte) in text.iter().enumerate() {
-        if *byte == at {
-            return Some((&text[0..i], &text[i + 1..]));
-        }
-    }
-    None
+    let i = first_place(text, at)?;
+    Some((&text[..i], &text[i + 1..]))
 }
 
 // The first line, without its end, and what follows it. The last line may lack its end.
@@ -23,10 +26,7 @@ pub(crate) fn next_line(text: &[u8]) -> (&[u8], &[u8])
     ensures rest { result.1.now ≡ rest_of text.now }
     ensures shorter { length result.1.now ≤ length text.now - 1 }
 {
-    match cut(text, b'\n') {
-        Some((line, rest)) => (line, rest),
-        None => (text, &text[text.len()..]),
-    }
+    cut(text, b'\n').unwrap_or((text, &[]))
 }
 
 // What follows so many lines.
@@ -36,8 +36,7 @@ pub(crate) fn past_lines(text: &[u8], count: usize) -> &[u8]
 {
     let mut rest = text;
     for _ in 0..count {
-        let (_, after) = next_line(rest);
-        rest = after;
+        rest = next_line(rest).1;
     }
     rest
 }

@@ -1,18 +1,19 @@
 // Weights as a script writes them: points as a number, classed as the class, a colon and the points, a share as a fraction.
 ghost use Rattle.std.specs.Prelude.{◌≡◌, ℕ, List, Option};
 ghost use Rattle.std.specs.Option.{option_map};
-ghost use Rattle.std.specs.Str.{bytes_eq};
+ghost use Rattle.kinds.specs.ClassLevels.{class_level};
 ghost use Rattle.account.specs.Weights.{level_of, points_in, classed_in, share_in, points_figures, classed_figures, share_figures, answer_figures};
 
 use crate::numbers::{long_number, number};
-use crate::words::{cut, is_word};
+use crate::words::cut;
+use kinds::class::Class;
 use kinds::classed::Classed;
 use kinds::points::Points;
 use kinds::share::Share;
 use weights::fault::WeightFault;
 use weights::kind::OrderedWeight;
 
-pub(crate) trait WrittenWeight: OrderedWeight {
+pub(crate) trait WrittenWeight: OrderedWeight + Default {
     // The figures of a weight, and those that a text writes.
     ghost figures: { Self → List ℕ };
 
@@ -21,27 +22,19 @@ pub(crate) trait WrittenWeight: OrderedWeight {
     // None where the text has not the kind's form, an error where it is out of range.
     fn parse(text: &[u8]) -> Option<Result<Self, WeightFault>>
         ensures { option_map (answer_figures figures) result ≡ figures_in text.now };
-
-    // Some weight of the kind.
-    fn example() -> Result<Self, WeightFault>;
 }
 
-// The level of a class, from its name.
-fn level(name: &[u8]) -> Option<u8>
-    ensures { result ≡ level_of name.now }
+// The class of that name.
+fn class_named(name: &[u8]) -> Option<Class>
+    ensures { option_map class_level result ≡ level_of name.now }
 {
-    if is_word(name, "QM") {
-        Some(0)
-    } else if is_word(name, "A") {
-        Some(1)
-    } else if is_word(name, "B") {
-        Some(2)
-    } else if is_word(name, "C") {
-        Some(3)
-    } else if is_word(name, "D") {
-        Some(4)
-    } else {
-        None
+    match name {
+        b"QM" => Some(Class::Qm),
+        b"A" => Some(Class::A),
+        b"B" => Some(Class::B),
+        b"C" => Some(Class::C),
+        b"D" => Some(Class::D),
+        _ => None,
     }
 }
 
@@ -51,12 +44,7 @@ impl WrittenWeight for Points {
     ghost figures_in = { points_in };
 
     fn parse(text: &[u8]) -> Option<Result<Points, WeightFault>> {
-        let count = long_number(text)?;
-        Some(Points::new(count))
-    }
-
-    fn example() -> Result<Points, WeightFault> {
-        Points::new(1)
+        long_number(text).map(Points::new)
     }
 }
 
@@ -67,13 +55,9 @@ impl WrittenWeight for Classed {
 
     fn parse(text: &[u8]) -> Option<Result<Classed, WeightFault>> {
         let (name, points) = cut(text, b':')?;
-        let class = level(name)?;
+        let class = class_named(name)?;
         let points = number(points)?;
-        Some(Classed::new(class, points))
-    }
-
-    fn example() -> Result<Classed, WeightFault> {
-        Classed::new(0, 1)
+        Some(Classed::new(class.level(), points))
     }
 }
 
@@ -87,9 +71,5 @@ impl WrittenWeight for Share {
         let part = number(part)?;
         let whole = number(whole)?;
         Some(Share::new(part, whole))
-    }
-
-    fn example() -> Result<Share, WeightFault> {
-        Share::new(1, 1)
     }
 }

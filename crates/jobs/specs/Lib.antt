@@ -1,3 +1,4 @@
 pub mod Admission
 pub mod Lists
+pub mod Printed
 pub mod Rows

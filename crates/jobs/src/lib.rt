@@ -3,5 +3,6 @@
 
 pub mod admission;
 pub mod list;
+pub mod printed;
 pub mod rows;
 pub mod terms;

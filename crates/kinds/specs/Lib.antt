@@ -8,3 +8,4 @@ pub mod HighFirst
 pub mod Sums
 pub mod PointsFacts
 pub mod ShareFacts
+pub mod Printed

@@ -4,4 +4,5 @@
 pub mod class;
 pub mod classed;
 pub mod points;
+pub mod printed;
 pub mod share;

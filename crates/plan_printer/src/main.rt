@@ -1,43 +1,14 @@
 // Reads a job sheet from standard input and prints its plan, or the line `refused N at B`.
 #![tactic(auto)]
 
-ghost use Rattle.std.specs.Prelude.{◌≡◌, ◌≤◌, length, IfOk};
+ghost use Rattle.std.specs.Prelude.{IfOk};
 ghost use Rattle.host.specs.Texts.{SheetText as TextFor};
 
 use anyhow::ensure;
 use host::sheet_text;
-use kinds::classed::Classed;
-use kinds::points::Points;
-use kinds::share::Share;
-use sheets::front::deciding_front;
+use intake::{read_front, widest_front};
 use std::alloc::Global;
-use std::io;
-use std::io::{Read, Write};
-use weights::kind::OrderedWeight;
-
-// As much of a sheet as decides its reading, whichever of the three kinds it is of.
-fn widest_front() -> usize
-    ensures { result ≡ 4372 }
-{
-    deciding_front::<Points>()
-        .max(deciding_front::<Classed>())
-        .max(deciding_front::<Share>())
-}
-
-// The input's front, as far as the buffer reaches: how many bytes there were.
-fn read_front(input: &mut impl Read, sheet: &mut [u8]) -> io::Result<usize>
-    ensures { IfOk result (λ len. len ≤ length sheet.old) }
-{
-    let mut len = 0;
-    for _ in 0..sheet.len() {
-        let got = input.read(&mut sheet[len..])?;
-        if got == 0 {
-            break;
-        }
-        len += got;
-    }
-    Ok(len)
-}
+use std::io::Write;
 
 // The text of a sheet, all of it and nothing else, and whether it is the line of a refusal.
 fn printed(heap: Global, sheet: &[u8]) -> anyhow::Result<(Vec<u8>, bool)>

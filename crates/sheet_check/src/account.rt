@@ -21,7 +21,7 @@ fn job_line<W: PrintedWeight>(heap: Global, job: &Job<W>) -> Result<String, Allo
     let number = job.number;
     let ready = job.ready;
     let deadline = job.deadline;
-    let weight = job.weight.text(heap)?;
+    let weight = job.weight;
     format!(in heap; "job {number} ready {ready} deadline {deadline} weight {weight}\n")
 }
 

@@ -1,49 +1,20 @@
 // Reads a job sheet from standard input and prints what it holds, or the line `refused N at B`.
 #![tactic(auto)]
 
-ghost use Rattle.std.specs.Prelude.{◌≡◌, ◌≤◌, length, IfOk};
-
 mod account;
 mod printed;
 mod rank;
 
 use account::{account, refusal};
 use anyhow::anyhow;
+use intake::{read_front, widest_front};
 use kinds::classed::Classed;
 use kinds::points::Points;
 use kinds::share::Share;
 use printed::PrintedWeight;
 use sheets::fault::LoadFault;
-use sheets::front::deciding_front;
 use sheets::kind::{Kind, kind_of};
 use sheets::reader::read;
-use std::io;
-use std::io::Read;
-use weights::kind::OrderedWeight;
-
-// As much of a sheet as decides its reading, whichever of the three kinds it is of.
-fn widest_front() -> usize
-    ensures { result ≡ 4372 }
-{
-    deciding_front::<Points>()
-        .max(deciding_front::<Classed>())
-        .max(deciding_front::<Share>())
-}
-
-// The input's front, as far as the buffer reaches: how many bytes there were.
-fn read_front(input: &mut impl Read, sheet: &mut [u8]) -> io::Result<usize>
-    ensures { IfOk result (λ len. len ≤ length sheet.old) }
-{
-    let mut len = 0;
-    for _ in 0..sheet.len() {
-        let got = input.read(&mut sheet[len..])?;
-        if got == 0 {
-            break;
-        }
-        len += got;
-    }
-    Ok(len)
-}
 
 // Prints the refusal's line; the error ends the program with status 1.
 fn refuse(rt: &HostRuntime, fault: LoadFault) -> anyhow::Result<()> {

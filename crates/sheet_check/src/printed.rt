@@ -1,15 +1,14 @@
-// Weights as text: points as a number, classed as the class, a colon and the points, a share as a fraction.
-ghost use Rattle.std.specs.Prelude.{◌≡◌, ℕ, List, ◌++◌, IfOk, string_bytes, codes, decimal};
-ghost use Rattle.sheet_check.specs.Names.{class_name};
+// What is printed of a kind of weight: its name, and each of its weights.
+ghost use Rattle.std.specs.Prelude.{◌≡◌, ℕ, List, Some, codes, refl};
+ghost use Rattle.kinds.specs.Printed.{points_text, classed_text, share_text};
 
-use kinds::class::Class;
 use kinds::classed::Classed;
 use kinds::points::Points;
 use kinds::share::Share;
-use std::alloc::{AllocError, Global};
+use std::fmt::Display;
 use weights::kind::OrderedWeight;
 
-pub(crate) trait PrintedWeight: OrderedWeight {
+pub(crate) trait PrintedWeight: OrderedWeight + Display {
     // The kind's name, and a weight, as text.
     ghost called: { List ℕ };
 
@@ -18,65 +17,41 @@ pub(crate) trait PrintedWeight: OrderedWeight {
     fn kind_name() -> &'static str
         ensures { result.now ≡ called };
 
-    fn text(&self, heap: Global) -> Result<String, AllocError>
-        ensures { IfOk result (λ t. string_bytes t ≡ written self.now) };
-}
-
-fn class_name(class: Class) -> &'static str
-    ensures { result.now ≡ class_name «class» }
-{
-    match class {
-        Class::Qm => "QM",
-        Class::A => "A",
-        Class::B => "B",
-        Class::C => "C",
-        Class::D => "D",
-    }
+    ghost prints: { (w : Self) → Self.Display.output w ≡ Some (written w) };
 }
 
 impl PrintedWeight for Points {
     ghost called = { codes "points" };
 
-    ghost written = { λ w. decimal w.count };
+    ghost written = { points_text };
+
+    ghost prints = { λ _. refl };
 
     fn kind_name() -> &'static str {
         "points"
-    }
-
-    fn text(&self, heap: Global) -> Result<String, AllocError> {
-        let count = self.count();
-        format!(in heap; "{count}")
     }
 }
 
 impl PrintedWeight for Classed {
     ghost called = { codes "classed" };
 
-    ghost written = { λ w. class_name w.class ++ (codes ":" ++ decimal w.points) };
+    ghost written = { classed_text };
+
+    ghost prints = { λ _. refl };
 
     fn kind_name() -> &'static str {
         "classed"
-    }
-
-    fn text(&self, heap: Global) -> Result<String, AllocError> {
-        let class = class_name(self.class());
-        let points = self.points();
-        format!(in heap; "{class}:{points}")
     }
 }
 
 impl PrintedWeight for Share {
     ghost called = { codes "share" };
 
-    ghost written = { λ w. decimal w.part ++ (codes "/" ++ decimal w.whole) };
+    ghost written = { share_text };
+
+    ghost prints = { λ _. refl };
 
     fn kind_name() -> &'static str {
         "share"
-    }
-
-    fn text(&self, heap: Global) -> Result<String, AllocError> {
-        let part = self.part();
-        let whole = self.whole();
-        format!(in heap; "{part}/{whole}")
     }
 }

@@ -1,0 +1,36 @@
+// What the programs read from standard input.
+#![tactic(auto)]
+
+ghost use Rattle.std.specs.Prelude.{◌≡◌, ◌≤◌, length, IfOk};
+
+use kinds::classed::Classed;
+use kinds::points::Points;
+use kinds::share::Share;
+use sheets::front::deciding_front;
+use std::io;
+use std::io::Read;
+
+// As much of a sheet as decides its reading, whichever of the three kinds it is of.
+pub fn widest_front() -> usize
+    ensures { result ≡ 4372 }
+{
+    deciding_front::<Points>()
+        .max(deciding_front::<Classed>())
+        .max(deciding_front::<Share>())
+}
+
+// The input's front, as far as the buffer reaches: how many bytes there were.
+pub fn read_front(input: &mut impl Read, buffer: &mut [u8]) -> io::Result<usize>
+    ensures { IfOk result (λ len. len ≤ length buffer.old) }
+{
+    let size = buffer.len();
+    let mut rest = buffer;
+    while !rest.is_empty() {
+        let got = input.read(rest)?;
+        if got == 0 {
+            break;
+        }
+        rest = &mut rest[got..];
+    }
+    Ok(size - rest.len())
+}
