@@ -12,10 +12,7 @@ use weights::totals::{adds_at_least, total_of};
 
 // Whether a weight is read as itself after it was written into the space.
 fn comes_back<W: OrderedWeight>(weight: &W, space: &mut [u8]) -> bool {
-    match through_bytes(weight, space) {
-        Some(read) => read.at_least(weight) && weight.at_least(&read),
-        None => false,
-    }
+    through_bytes(weight, space).is_some_and(|read| read.at_least(weight) && weight.at_least(&read))
 }
 
 #[test]
@@ -40,6 +37,28 @@ fn ranges(rt: HostRuntime) -> Result<(), Fail> {
     let share = Share::new(1, 65535)?;
     assert_eq!(rt; (share.part(), share.whole()), (1, 65535));
     assert_eq!(rt; WeightFault::NoWeight.number(), 7);
+    assert_eq!(rt; Class::try_from(4), Ok(Class::D));
+    assert_eq!(rt; Class::try_from(5), Err(WeightFault::NoWeight));
+    Ok(())
+}
+
+// The weights that a kind begins with, and how weights and totals are printed.
+#[test]
+fn defaults_and_texts(rt: HostRuntime) -> Result<(), Fail> {
+    let heap = rt.alloc();
+    let classed = Classed::new(3, 515)?;
+    let points = total_of(&[Points::new(9)?], &[true], 1).ok_or("counted")?;
+    let sums = total_of(&[classed], &[true], 1).ok_or("counted")?;
+    for (text, due) in [
+        (format!(in heap; "{}", Points::default())?, "1"),
+        (format!(in heap; "{}", Classed::default())?, "QM:1"),
+        (format!(in heap; "{}", Share::default())?, "1/1"),
+        (format!(in heap; "{classed}")?, "C:515"),
+        (format!(in heap; "{points}")?, "9"),
+        (format!(in heap; "{sums}")?, "0/515/0/0/0"),
+    ] {
+        assert_eq!(rt; text.as_str(), due);
+    }
     Ok(())
 }
 
