@@ -10,7 +10,8 @@ use weights::kind::OrderedWeight;
 use weights::ranking::ranks_before;
 
 // Whether the store has a weight for each row, and these put the rows in rank order: the heavier first, and among equals the
-// lower number. False where the store has fewer entries than there are rows.
+// lower number. False where the store has fewer entries than there are rows. Beside `in_rank_order` of the weights, which has the numbers
+// in a slice: one for anything numbered would be a trait of two impls for one loop.
 pub fn in_order<W: OrderedWeight>(rows: &[Row], store: &[W]) -> bool
     ensures answers { Decides result (Ordered (heavier_then_lower W.OrderedWeight.no_lighter) rows.now store.now) }
 {
