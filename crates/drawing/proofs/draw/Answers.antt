@@ -1,9 +1,8 @@
-use Rattle.std.proofs.Common.{◌≡◌, ℕ, length, get_or, replicate, is_ok, Option, None, sym, subst, inl, inr, arith}
+use Rattle.std.proofs.Common.{◌≡◌, ℕ, length, get_or, replicate, is_ok, Option, None, inl, inr, arith}
 use lib.ListN.{length-replicate}
 use Rattle.std.proofs.lemmas.Bool.{cases_lt}
 use Rattle.std.proofs.lemmas.List.{get_or-replicate, get_or_past}
 use Rattle.drawing.specs.Draw.{Drawable}
-use Rattle.drawing.specs.Trial.{OfRows}
 use Rattle.drawing.proofs.Places.{counted, numbered_from}
 use Rattle.drawing.proofs.Links.{few, drawn}
 use Rattle.drawing.proofs.draw.Goals as goal
@@ -28,22 +27,6 @@ none_there n p = elim (cases_lt p n) [
 
 pub deal-requires : goal.deal-requires
 deal-requires g c = record { empty = none_there 8192 }
-
-pub read_seats-requires : goal.read_seats-requires
-read_seats-requires g c =
-    let mask = g.C.Calendar.mask c.args.calendar.now in
-    let counts = c.place_counts.new.counts in
-    let w = counted mask counts (is_ok c.place_counts.result) c.place_counts.ensures.answers in
-    let drawable : Drawable c.args.rows.now = c.drawable.ensures.answers.0 c.if-not-drawable.false in
-    let rows = drawable.few in
-    let same = c.if-seats-rows.false in
-    record {
-      counted = w.1;
-      room = few mask (g.met.C.Calendar.mask_bound c.args.calendar.now) counts w.0 w.1;
-      few = omega arith;
-      seated = subst (OfRows c.deal.new.places) (sym same) c.deal.ensures.seated;
-      once = λ p q l m h. c.deal.ensures.leaves.2.dealt.once p q l m (omega arith);
-    }
 
 pub returns : goal.returns
 returns g c =

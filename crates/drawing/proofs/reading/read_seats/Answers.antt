@@ -1,7 +1,6 @@
 use Rattle.std.proofs.Common.{◌≡◌, ◌+◌, length, get_or, sym, ◌∙◌, subst, arith, rules}
 use Rattle.calendars.proofs.Opens.{opens_none}
 use Rattle.drawing.specs.Trial.{OfRows}
-use Rattle.drawing.specs.Seats.{SeatsRead}
 use Rattle.drawing.proofs.Slots.{counts_rise}
 use Rattle.drawing.proofs.Places.{count_more, numbered_from}
 use Rattle.drawing.proofs.Seating.{seating_none}
@@ -30,9 +29,3 @@ read_slot-requires g c =
       once = λ p q l m h. c.requires.once p q (omega arith) (omega arith) (omega arith);
       read = c.loop-s.invariant;
     }
-
-pub returns : goal.returns
-returns g c =
-    let mask = g.C.Calendar.mask c.args.calendar.now in
-    let last : c.loop-s.s ≡ 1024 = omega arith in
-    record { leaves = subst (λ y. SeatsRead mask c.args.places.now c.loop-s.seats (get_or c.args.counts.now y 0)) last c.loop-s.invariant }

@@ -1,7 +1,6 @@
-use Rattle.std.proofs.Common.{inl, inr, ⊎_elim}
 use Rattle.std.specs.Iterator.Adapters.{zip_first, zip_second}
 use Rattle.std.specs.Slice.Iter.{iter_rest}
-use Rattle.writing.proofs.Jobs.{next, next_room, one_more, all_put}
+use Rattle.writing.proofs.Jobs.{next, next_room, one_more}
 use Rattle.writing.proofs.records.put_jobs.Goals as goal
 
 pub put_job-requires : goal.put_job-requires
@@ -19,11 +18,3 @@ loop-row-preserved g c =
     let ws = iter_rest (zip_second c.next.new.self) in
     let left = next w.encoding w.WIDTH g.met.W.OrderedWeight.sized c.args.rows.now c.args.store.now c.args.front.now c.loop-row.front c.in-Some.row.now c.in-Some.weight.now rs ws _ _ c.in-Some.ensures.steps.0 c.in-Some.ensures.steps.1 c.loop-row.invariant.2 in
     ((tt, tt), tt, one_more w.encoding w.WIDTH g.met.W.OrderedWeight.sized c.args.rows.now c.args.store.now c.args.front.now c.loop-row.front c.in-Some.row.now c.in-Some.weight.now rs ws c.put_job.new.front left c.put_job.ensures.value)
-
-pub returns : goal.returns
-returns g c =
-    let w = g.W.OrderedWeight in
-    record {
-      value = all_put w.encoding w.WIDTH g.met.W.OrderedWeight.sized c.args.rows.now c.args.store.now c.args.front.now c.loop-row.front (iter_rest (zip_first c.loop-row.row-iterator)) (iter_rest (zip_second c.loop-row.row-iterator))
-          (⊎_elim (λ x. inl x.1.0) (λ x. inr x.1.0) c.in-None.ensures.steps) c.loop-row.invariant.2;
-    }

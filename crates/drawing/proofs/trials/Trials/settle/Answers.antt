@@ -1,6 +1,6 @@
-use Rattle.std.proofs.Common.{◌≡◌, ℕ, ◌+◌, ◌<◌, ◌≤◌, length, get_or, None, sym, refl, ap, ◌∙◌, subst, arith, rules, below_more}
-use Rattle.std.proofs.lemmas.List.{get_or-set_same, length-set}
-use Rattle.drawing.specs.Trial.{order, seat_of, start, carried_in, settled_in, OfRows}
+use Rattle.std.proofs.Common.{◌≡◌, ℕ, ◌+◌, ◌<◌, ◌≤◌, length, get_or, sym, refl, ap, ◌∙◌, subst, arith, rules, below_more}
+use Rattle.std.proofs.lemmas.List.{length-set}
+use Rattle.drawing.specs.Trial.{order, seat_of, start, settled_in, OfRows}
 use Rattle.drawing.proofs.Walk.{settled_start}
 use Rattle.drawing.proofs.Carrying.{Carrying, carrying_start, carrying_keep, carrying_swap, taken_place, empty_place, stored, beyond, seats_row}
 use Rattle.drawing.proofs.trials.Trials.settle.Goals as goal
@@ -61,26 +61,3 @@ loop-p-preserved c =
           let few = t.drawable.few in
           absurd (omega (arith, pass.0))
     ]
-
-pub returns-clause-seated : goal.returns-clause-seated
-returns-clause-seated c =
-    let inv = c.loop-p.invariant in
-    let ends = c.requires.succeeds in
-    let end = ends.1 in
-    let room = c.args.self.now.room in
-    let long : c.args.e < length c.loop-p.places = omega (arith, inv.4) in
-    seats_row c.loop-p.places (length c.args.self.now.rows.now) c.args.e c.loop-p.carried long inv.3 inv.0.small
-
-pub returns-clause-leaves : goal.returns-clause-leaves
-returns-clause-leaves c =
-    let t = c.args.self.now in
-    let inv = c.loop-p.invariant in
-    let ends = c.requires.succeeds in
-    let from = ends.0 in
-    let upto = c.loop-p.auto.p-end in
-    let last : c.loop-p.p ≡ c.args.e = omega (arith, c.first_place-p.ensures.value, upto (omega (arith, c.first_place-p.ensures.value))) in
-    let end = ends.1 in
-    let room = c.args.self.now.room in
-    let long : c.args.e < length c.loop-p.places = omega (arith, inv.4) in
-    taken_place _ c.args.e c.loop-p.carried (get_or-set_same c.loop-p.places c.args.e _ None long)
-    ∙ (inv.0.is ∙ ap (carried_in t.rows.now t.counts.now c.args.places.now c.args.x) last)
