@@ -19,6 +19,7 @@ mod texts;
 fn text_as(kind: Kind, sheet: &[u8], out: &mut [u8]) -> Result<SheetText, BufferFault>
     ensures { (refused : Bool) × ((text : List ℕ) × TextAs kind sheet.now refused text × Handed refused text out.old out.new result) }
 {
+    // One line for each kind: a trait of visitors would be longer.
     match kind {
         Kind::Points => text_with::<Points>(sheet, out),
         Kind::Classed => text_with::<Classed>(sheet, out),
@@ -44,6 +45,7 @@ pub fn sheet_text(sheet: &[u8], out: &mut [u8]) -> Result<SheetText, BufferFault
 }
 
 // The same for a host written in C: the length of the text, or −15 and an untouched buffer if it does not fit.
+// A number below 0, since C has no Result.
 pub fn plan_sheet(sheet: &[u8], out: &mut [u8]) -> i64
     ensures cases { (refused : Bool) × ((text : List ℕ) × TextFor sheet.now refused text × Answered text out.old out.new result) }
     ensures alone { SheetTextOnce }

@@ -7,6 +7,7 @@ use std::fmt::{Debug, Display};
 use std::test::Fail;
 use weights::kind::OrderedWeight;
 
+// By the customer's numbers: a Result of our faults would check only our own names.
 #[derive(Clone, Copy, Debug, PartialEq, Eq)]
 pub(crate) enum Answer {
     // Read, with that many jobs.

@@ -9,9 +9,9 @@ use crate::tag::Tag;
 
 #[derive(Clone, Copy, Debug, PartialEq, Eq)]
 pub enum Kind {
-    Points,
-    Classed,
-    Share,
+    Points = 1,
+    Classed = 2,
+    Share = 3,
 }
 
 impl Kind {
@@ -19,11 +19,7 @@ impl Kind {
     pub fn code(self) -> u8
         ensures { result ≡ kind_code self }
     {
-        match self {
-            Kind::Points => 1,
-            Kind::Classed => 2,
-            Kind::Share => 3,
-        }
+        self as u8
     }
 }
 

@@ -16,6 +16,7 @@ use weights::kind::OrderedWeight;
 
 // The job record at byte `at`, where the records from byte `first` up to there hold the `count` jobs already in the table:
 // the byte behind it, or the first cause against it.
+// Three numbers for one caller: a struct would owe what they mean at each step.
 fn check_job<W: OrderedWeight>(
     sheet: &[u8],
     first: usize,

@@ -14,6 +14,7 @@ use weights::kind::OrderedWeight;
 pub struct Sheet<'a, W> {
     pub(crate) masks: &'a [u8],
     pub(crate) records: &'a [u8],
+    // The count stands beside the records, since only the kind W knows how long one is.
     pub(crate) count: usize,
     pub(crate) kind: PhantomData<W>,
     ghost short: { length masks.now ≤ 1024 },

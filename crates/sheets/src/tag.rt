@@ -6,9 +6,9 @@ use crate::fault::SheetFault;
 
 #[derive(Clone, Copy, Debug, PartialEq, Eq)]
 pub enum Tag {
-    Kind,
-    Calendar,
-    Job,
+    Kind = 1,
+    Calendar = 2,
+    Job = 3,
 }
 
 impl Tag {
@@ -16,11 +16,7 @@ impl Tag {
     pub fn byte(self) -> u8
         ensures { result ≡ tag_byte self }
     {
-        match self {
-            Tag::Kind => 1,
-            Tag::Calendar => 2,
-            Tag::Job => 3,
-        }
+        self as u8
     }
 }
 

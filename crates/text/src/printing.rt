@@ -44,6 +44,7 @@ fn push_rows<const CAP: usize>(text: &mut ArrayString<CAP>, rows: &[Row])
 
 // Prints the plan at the buffer's front, a line a job in rank order, and answers the text's length; the rest of the buffer stays as it
 // was. Refused for a buffer that is shorter than the text (15), and then the buffer stays as it was. The rows of a plan have one text.
+// A length and no slice: a host in C is told a length.
 pub fn print(plan: &Plan, out: &mut [u8]) -> Result<usize, BufferFault>
     ensures cases { (text : List ℕ) × Printed (rows_in plan.now) text × Delivered text out.old out.new result }
     ensures alone { PrintedOnce }

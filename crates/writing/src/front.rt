@@ -8,6 +8,7 @@ use sheets::tag::Tag;
 use weights::kind::OrderedWeight;
 
 // The first `len` bytes of `out` are written.
+// The caller's buffer and how much of it is written: there is no heap.
 #[derive(Drop)]
 pub(crate) struct Front<'a> {
     pub(crate) out: &'a mut [u8],

@@ -26,6 +26,7 @@ fn put_masks<C: Calendar>(calendar: &C, front: &mut Front)
     requires room { Room (C.Calendar.end calendar.now) front.old }
     ensures value { Adds (masks_of (C.Calendar.end calendar.now) (C.Calendar.mask calendar.now)) front.old front.new }
 {
+    // By slot, since a mask is asked for by its slot.
     for slot in 0..calendar.end() {
         front.put(&[calendar.mask(slot)]);
     }
