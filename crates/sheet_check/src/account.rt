@@ -18,10 +18,7 @@ use std::alloc::{AllocError, Global};
 fn job_line<W: PrintedWeight>(heap: Global, job: &Job<W>) -> Result<String, AllocError>
     ensures { IfOk result (λ t. string_bytes t ≡ job_line W.PrintedWeight.written job.now) }
 {
-    let number = job.number;
-    let ready = job.ready;
-    let deadline = job.deadline;
-    let weight = job.weight;
+    let Job { number, ready, deadline, weight } = *job;
     format!(in heap; "job {number} ready {ready} deadline {deadline} weight {weight}\n")
 }
 
