@@ -37,4 +37,5 @@ pub enum StretchFault {
 }
 
 // What a call answers: whether the named job is kept now and the number of the other job whose standing changed, or why it is refused.
+// A pair, as the definitions of a call's outcome read it.
 pub type Answer = Result<(bool, Option<u16>), CallFault>;

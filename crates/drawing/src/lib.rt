@@ -19,7 +19,8 @@ mod trials;
 #[derive(Clone, Copy, Debug, PartialEq, Eq)]
 pub struct NotDrawable;
 
-// The plan's seats for these rows, which stand in rank order: fills `seats`, entry i with the seat of row i or None.
+// The plan's seats for these rows, which stand in rank order: fills `seats`, entry i with the seat of row i or None. The seats lie apart
+// from the rows, which stay as they are while they are read.
 // The seats that the rows themselves hold do not matter. Refuses, `seats` unchanged, where there are more than 256 rows,
 // `seats` is not as long as `rows`, some deadline is above 1,024 or two rows have one number.
 pub fn draw<C: Calendar>(

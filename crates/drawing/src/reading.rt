@@ -31,9 +31,8 @@ fn read_slot<C: Calendar>(
     // by place, since its number tells the link
     for p in first..past {
         if let Some(row) = places[usize::from(p)] {
-            if let Some(link) = kth_open_link(calendar, slot, (p - first) as u8) {
-                seats[usize::from(row)] = Some(Seat { slot, link });
-            }
+            let link = kth_open_link(calendar, slot, (p - first) as u8).unwrap();
+            seats[usize::from(row)] = Some(Seat { slot, link });
         }
     }
 }

@@ -11,7 +11,8 @@ ghost use Rattle.drawing.specs.Trial.{order, seat_of, carried_in, settled_in, Su
 use jobs::terms::Row;
 use placing::predicates::goes_first;
 
-// The row that sits at each open place, where one does. A calendar has 8,192 open places at most.
+// The row that sits at each open place, where one does. A calendar has 8,192 open places at most. A bare array of fixed size: there is no
+// heap, and which rows may sit there depends on the rows, which a struct of the places would have to hold too.
 pub(crate) type Places = [Option<u8>; 8192];
 
 // What a trial reads: the rows, and in `counts[s]` how many open places lie in the slots below s.
@@ -92,7 +93,8 @@ impl Trials<'_> {
         places[e] = Some(carried as u8);
     }
 
-    // Keeps row x, and deals the places anew, if it has a place beside the rows that are seated; else leaves all as it is.
+    // Keeps row x, and deals the places anew, if it has a place beside the rows that are seated; else leaves all as it is. Answers a bool,
+    // since whether the row is kept is all that there is to say.
     fn trial(&self, places: &mut Places, x: usize) -> bool
         requires within { x < length self.now.rows.now }
         requires seated { OfRows places.old (length self.now.rows.now) }

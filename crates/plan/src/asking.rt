@@ -46,7 +46,7 @@ impl Plan {
         if self.table.row(rank).seat.is_some() {
             return Err(StretchFault::JobKept);
         }
-        stretch_at(self.rows(), rank).ok_or(StretchFault::NumberUnknown)
+        Ok(stretch_at(self.rows(), rank).unwrap())
     }
 
     // How many jobs are kept, and how many dropped. Refused for a store that is too short (14) or out of rank order (6).
@@ -64,8 +64,7 @@ impl Plan {
         ensures cases { MatchResult result (λ t. StoreGood (heavier_then_lower W.OrderedWeight.no_lighter) (rows_in self.now) store.now × (t.jobs.kept ≡ kept_count (rows_in self.now)) × (t.jobs.dropped ≡ dropped_count (rows_in self.now)) × (t.kept_total ≡ total_of_kept W.TotalledWeight.nothing W.TotalledWeight.plus (rows_in self.now) store.now) × (t.dropped_total ≡ total_of_dropped W.TotalledWeight.nothing W.TotalledWeight.plus (rows_in self.now) store.now)) (StoreRefused (heavier_then_lower W.OrderedWeight.no_lighter) (rows_in self.now) store.now) }
     {
         let jobs = self.tally(store)?;
-        let totals = totals_of(self.rows(), store);
-        let (kept_total, dropped_total) = totals.ok_or(StoreFault::TooShort)?;
+        let (kept_total, dropped_total) = totals_of(self.rows(), store).unwrap();
         Ok(TotalTally {
             jobs,
             kept_total,

@@ -13,7 +13,7 @@ use weights::kind::OrderedWeight;
 
 impl Plan {
     // Opens the plan anew with the jobs of a sheet, all or none, under the listed calendar of the sheet's masks, ending or carried on,
-    // and hands out these masks. Refused for a store under 256 entries (14), and then exactly as the reader refuses the sheet; plan and
+    // and hands out these masks. The calendar is made here, of one of two forms, so that a flag says which. Refused for a store under 256 entries (14), and then exactly as the reader refuses the sheet; plan and
     // store are then as before. A loaded plan is the plan of the sheet's jobs, so that a run of calls under this calendar may begin with it.
     pub fn load<'a, W: OrderedWeight>(
         &mut self,
@@ -24,6 +24,7 @@ impl Plan {
         ensures cases { MatchResult result (λ masks. Loaded W.OrderedWeight.CODE W.OrderedWeight.WIDTH W.OrderedWeight.encoding W.OrderedWeight.no_lighter carried_on sheet.now masks.now (at (rows_in self.old) store.old) (at (rows_in self.new) store.new)) (LoadRefused W.OrderedWeight.CODE W.OrderedWeight.WIDTH W.OrderedWeight.encoding sheet.now store.old) }
         ensures refused { OnErr result ((self.new ≡ self.old) × (store.new ≡ store.old)) }
     {
+        // Tested here too, since this refusal comes before the reader's.
         if store.len() < 256 {
             return Err(LoadRefusal::StoreTooShort);
         }

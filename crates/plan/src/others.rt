@@ -1,4 +1,5 @@
-// Whose standing a change of the table has changed, besides that of the job it names.
+// Whose standing a change of the table has changed, besides that of the job it names. Two tables and a number each time: a struct of the
+// three would be made for one call alone.
 ghost use Rattle.std.specs.Prelude.{◌≡◌, ◌<◌, Decides};
 ghost use Rattle.calls.specs.Calls.{FirstOther};
 ghost use Rattle.placing.specs.Placing.{row as row_at};

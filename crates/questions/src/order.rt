@@ -1,4 +1,4 @@
-// The rank of rows by their weights, which lie in a store beside them: that of row i at i.
+// The rank of rows by their weights, which lie in a store of the caller's beside them: that of row i at i.
 ghost use Rattle.std.specs.Prelude.{Decides, MatchResult};
 ghost use Rattle.placing.specs.Orders.{heavier_then_lower};
 ghost use Rattle.calls.specs.Moments.{Ordered};
@@ -10,16 +10,15 @@ use weights::kind::OrderedWeight;
 use weights::ranking::ranks_before;
 
 // Whether the store has a weight for each row, and these put the rows in rank order: the heavier first, and among equals the
-// lower number. False where the store has fewer entries than there are rows. Beside `in_rank_order` of the weights, which has the numbers
-// in a slice: one for anything numbered would be a trait of two impls for one loop.
+// lower number. False where the store has fewer entries than there are rows. Beside the weights' `in_rank_order`, whose numbers are a slice:
+// one for anything numbered would be a trait of two impls, or a third function behind both, for one loop.
 pub fn in_order<W: OrderedWeight>(rows: &[Row], store: &[W]) -> bool
     ensures answers { Decides result (Ordered (heavier_then_lower W.OrderedWeight.no_lighter) rows.now store.now) }
 {
     if store.len() < rows.len() {
         return false;
     }
-    // By index, as weights in rank order are: each turn reads two neighbours of the rows and of the store, and a closure that reads
-    // weights of any kind by index was not proved.
+    // By index, as `in_rank_order` is: each turn reads two neighbours of the rows and of the store.
     for rank in 1..rows.len() {
         if !ranks_before(
             &store[rank - 1],

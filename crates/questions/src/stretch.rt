@@ -10,11 +10,9 @@ use jobs::terms::Row;
 pub fn stretch_at(rows: &[Row], rank: usize) -> Option<(u16, u16)>
     ensures cases { MatchOption result (length rows.now ≤ rank) (λ run. (rank < length rows.now) × Stretch rows.now rank run.0 run.1) }
 {
-    if rank >= rows.len() {
-        return None;
-    }
-    let mut lo = rows[rank].ready;
-    let mut hi = rows[rank].deadline;
+    let row = rows.get(rank)?;
+    let mut lo = row.ready;
+    let mut hi = row.deadline;
     loop {
         let (from, to) = widen(rows, lo, hi);
         if from == lo && to == hi {
@@ -41,11 +39,8 @@ fn widen(rows: &[Row], lo: u16, hi: u16) -> (u16, u16)
 fn widen_by(row: &Row, lo: u16, hi: u16) -> (u16, u16)
     ensures value { Widened (Inside row.now) lo hi result.0 result.1 }
 {
-    let Some(seat) = row.seat else {
-        return (lo, hi);
-    };
-    if seat.slot < lo || hi <= seat.slot {
-        return (lo, hi);
+    match row.seat {
+        Some(seat) if (lo..hi).contains(&seat.slot) => (lo.min(row.ready), hi.max(row.deadline)),
+        _ => (lo, hi),
     }
-    (lo.min(row.ready), hi.max(row.deadline))
 }

@@ -40,7 +40,8 @@ pub fn totals_of<W: TotalledWeight>(rows: &[Row], store: &[W]) -> Option<(W::Tot
     Some((kept, dropped))
 }
 
-// The total of the kept rows, or of the dropped ones. 256 weights always have a total.
+// The total of the kept rows, or of the dropped ones. 256 weights always have a total. Beside the weights' `total_of`, whose marks are
+// a slice: here a row's seat is the mark, and there is no heap to write marks to.
 fn total_where<W: TotalledWeight>(rows: &[Row], store: &[W], kept: bool) -> Option<W::Total>
     ensures cases { MatchOption result (Counted rows.now store.now → ⊥) (λ t. Counted rows.now store.now × (t ≡ (if kept then total_of_kept W.TotalledWeight.nothing W.TotalledWeight.plus rows.now store.now else total_of_dropped W.TotalledWeight.nothing W.TotalledWeight.plus rows.now store.now))) }
     ensures agrees { Agrees W.OrderedWeight.no_lighter W.TotalledWeight.plus W.TotalledWeight.over }

@@ -1,5 +1,5 @@
 // A sheet that was read for the kind W: its masks and its job records, parts of the sheet's own bytes.
-ghost use Rattle.std.specs.Prelude.{◌≡◌, ◌+◌, List, length, MatchOption};
+ghost use Rattle.std.specs.Prelude.{◌≡◌, ◌+◌, ◌≤◌, List, length, MatchOption};
 ghost use Rattle.jobs.specs.declared.terms.Job.{Job};
 ghost use Rattle.jobs.specs.Lists.{nth};
 ghost use Rattle.sheets.specs.Format.{job_records, JobAt};
@@ -16,6 +16,7 @@ pub struct Sheet<'a, W> {
     pub(crate) records: &'a [u8],
     pub(crate) count: usize,
     pub(crate) kind: PhantomData<W>,
+    ghost short: { length masks.now ≤ 1024 },
 }
 
 impl<'a, W> Sheet<'a, W> {

@@ -38,6 +38,7 @@ impl OrderedWeight for Share {
         let parts = share_parts s.part s.whole t.part t.whole (omega arith) (omega arith) (omega arith) (omega arith) e in
         share_same s t parts.0 parts.1 };
 
+    // No derived order: two different shares may weigh the same.
     fn at_least(&self, other: &Share) -> bool {
         self.part as u32 * other.whole as u32 >= other.part as u32 * self.whole as u32
     }

@@ -1,4 +1,5 @@
-// A table planned anew: its rows drawn under a calendar.
+// A table planned anew: its rows drawn under a calendar. That each row has its window is asked here and known of a plan, not of a table:
+// there each insertion would owe it.
 ghost use Rattle.std.specs.Prelude.{◌≡◌, length};
 ghost use Rattle.drawing.specs.Draw.{seated};
 ghost use Rattle.placing.specs.Orders.{earliest_then_lower};

@@ -1,4 +1,4 @@
-// How a table is read and changed.
+// How a table is read and changed. The count is promised beside the rows, since the bounds of indices are shown by it.
 ghost use Rattle.std.specs.Prelude.{◌≡◌, ◌+◌, ◌-◌, ◌<◌, ◌≤◌, [], length, MatchOption, slice_set};
 ghost use Rattle.std.specs.List.{insert, remove};
 ghost use Rattle.jobs.specs.declared.terms.Standing.TheVariants.{Absent};

@@ -1,12 +1,13 @@
 use Rattle.std.proofs.Common.{◌≡◌, ◌+◌, ◌<◌, length, get_or, set, Some, None, sym, ap, ◌∙◌, subst, arith, rules}
 use lib.Count.{ones-le}
+use Rattle.std.proofs.lemmas.Option.{MatchOption-at_some}
 use Rattle.jobs.specs.declared.terms.Seat.{Seat}
 use Rattle.drawing.specs.Trial.{seat_of}
 use Rattle.drawing.specs.Seats.{Once, SeatsRead}
 use Rattle.drawing.proofs.Carrying.{taken_place, empty_place}
 use Rattle.drawing.proofs.Seating.{seating_skip, seating_more, seat_here}
 use Rattle.drawing.proofs.reading.read_slot.Goals as goal
-use Rattle.drawing.proofs.reading.read_slot.Goals.{in-Some+in-Some-kth_open_link, in-Some+in_default-kth_open_link, in_default}
+use Rattle.drawing.proofs.reading.read_slot.Goals.{in-Some, in_default}
 
 pub overflow_cast-p : goal.overflow_cast-p
 overflow_cast-p g c =
@@ -25,18 +26,19 @@ loop-p-preserved g c =
     let from = c.loop-p.auto.p in
     let long : length out ≡ length c.args.seats.now = search rules in
     elim c.match-places-from.branch [
-      | in-Some+in-Some-kth_open_link w ↦
+      | in-Some w ↦
           let i = w.in-Some.row in
-          let seat : Seat = record { slot = slot; link = w.in-Some-kth_open_link.link } in
+          let link = w.unwrap-link.result in
+          let found = MatchOption-at_some _ _ link w.unwrap-link.ensures w.kth_open_link.ensures.cases in
+          let seat : Seat = record { slot = slot; link = link } in
           let taken : get_or at p None ≡ Some i = subst (λ k. get_or at k None ≡ Some i) c.from.ensures w.in-Some.is in
           let sits = taken_place at p i taken in
-          let here : w.from-in-Some-kth_open_link.result ≡ seat_of at p = w.from-in-Some-kth_open_link.ensures ∙ sym sits in
+          let here : w.from-in-Some.result ≡ seat_of at p = w.from-in-Some.ensures ∙ sym sits in
           let within : seat_of at p < length out = omega (arith, sits, c.requires.seated p i taken) in
           subst (λ ys. SeatsRead mask at ys (p + 1)) (sym (w.seats-is ∙ ap (λ k. set out k (Some seat)) here))
           (seating_more mask at out p c.loop-p.invariant c.args.past c.loop-p-test.true
           (subst (λ n. Once at c.args.past n) (sym long) c.requires.once) within seat
-          (seat_here mask slot p w.in-Some-kth_open_link.link c.args.first c.requires.slots c.requires.begins from w.in-Some-kth_open_link.ensures.cases.1))
-      | in-Some+in_default-kth_open_link w ↦ (let few = w.in_default-kth_open_link.ensures.cases in let taken = c.loop-p-test.true in absurd (omega arith))
+          (seat_here mask slot p link c.args.first c.requires.slots c.requires.begins from found.1))
       | in_default w ↦
           let empty = empty_place at p (λ i e. w.in_default.not-Some i (subst (λ k. get_or at k None ≡ Some i) (sym c.from.ensures) e)) in
           let few = c.requires.few in
