@@ -23,6 +23,7 @@ fn ask<W: TalliedWeight>(
     question: Question,
 ) -> anyhow::Result<()> {
     let answer = question_text(rt.alloc(), plan, store, question)?;
+    // Only print is answered by lines of its own.
     let text = match question {
         Question::Print => listed(rt.alloc(), line, answer.as_str())?,
         _ => answered(rt.alloc(), line, answer.as_str())?,
@@ -36,6 +37,7 @@ fn run_text(heap: Global, text: &[u8], answers: &[Answer]) -> Result<Vec<u8>, Al
 {
     let mut all = Vec::new(heap);
     let mut rest = text;
+    // The lines are cut while the answers are gone over, as in calls_ahead.
     for answer in answers {
         let (line, after) = next_line(rest);
         let words = answer_text(heap, answer)?;

@@ -14,7 +14,7 @@ mod text;
 mod words;
 mod written;
 
-use anyhow::anyhow;
+use anyhow::ensure;
 use intake::read_front;
 use kinds::classed::Classed;
 use kinds::points::Points;
@@ -39,6 +39,7 @@ fn account(rt: &HostRuntime, script: &[u8]) -> anyhow::Result<()> {
         return end_at(rt, 1);
     };
     say(rt, line, "accepted")?;
+    // One line for each kind: a trait of visitors would be longer.
     match kind {
         Kind::Points => from_calendar::<Points>(rt, rest),
         Kind::Classed => from_calendar::<Classed>(rt, rest),
@@ -49,8 +50,6 @@ fn account(rt: &HostRuntime, script: &[u8]) -> anyhow::Result<()> {
 fn main(rt: HostRuntime) -> anyhow::Result<()> {
     let mut buffer = vec![in rt.alloc(); 0u8; LONGEST + 1]?;
     let len = read_front(&mut rt.stdin(), buffer.as_mut_slice())?;
-    if len > LONGEST {
-        return Err(anyhow!("the script is too long"));
-    }
+    ensure!(len <= LONGEST, "the script is too long");
     account(&rt, &buffer[0..len])
 }

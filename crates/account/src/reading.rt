@@ -103,10 +103,9 @@ pub(crate) fn command<W: WrittenWeight>(line: &[u8]) -> Option<Command<W>>
     ensures { option_map (command_figures W.WrittenWeight.figures) result ≡ command_in W.WrittenWeight.figures_in line.now }
 {
     match cut(line, b' ') {
-        Some((name, text)) => match call::<W>(name, text) {
-            Some(command) => Some(command),
-            None => Some(Command::Ask(question(name, text)?)),
-        },
+        Some((name, text)) => {
+            call::<W>(name, text).or_else(|| Some(Command::Ask(question(name, text)?)))
+        }
         None => Some(Command::Ask(lone_question(line)?)),
     }
 }

@@ -26,7 +26,7 @@ pub(crate) fn kind(line: &[u8]) -> Option<Kind>
     ensures { result ≡ kind_in line.now }
 {
     match cut(line, b' ')? {
-        (word, name) if is_word(word, "kind") => kind_named(name),
+        (b"kind", name) => kind_named(name),
         _ => None,
     }
 }
@@ -62,6 +62,7 @@ fn form(heap: Global, text: &[u8]) -> Result<Option<Base>, AllocError>
     if is_word(text, "listed") {
         return Ok(Some(Base::Listed(Vec::new(heap))));
     }
+    // Guards: b"even" and b"listed" in the patterns were tried, and the proof of the last arm did not close.
     match cut(text, b' ') {
         Some((name, rest)) if is_word(name, "even") => Ok(even(rest)),
         Some((name, rest)) if is_word(name, "listed") => Ok(masks(heap, rest)?.map(Base::Listed)),
@@ -74,7 +75,7 @@ pub(crate) fn base(heap: Global, line: &[u8]) -> Result<Option<Base>, AllocError
     ensures { IfOk result (λ o. option_map base_figures o ≡ base_in line.now) }
 {
     match cut(line, b' ') {
-        Some((name, text)) if is_word(name, "calendar") => form(heap, text),
+        Some((b"calendar", text)) => form(heap, text),
         _ => Ok(None),
     }
 }
@@ -96,7 +97,7 @@ pub(crate) fn closed(line: &[u8]) -> Option<Closed>
     ensures { result ≡ closed_in line.now }
 {
     match cut(line, b' ')? {
-        (name, text) if is_word(name, "closed") => stretch(text),
+        (b"closed", text) => stretch(text),
         _ => None,
     }
 }

@@ -9,6 +9,7 @@ use calendars::calendar::Calendar;
 use calendars::carried_on::CarriedOn;
 use calendars::closed_stretch::ClosedStretch;
 use calendars::even::Even;
+use calendars::fault::CalendarFault;
 use calendars::listed::Listed;
 
 // A closed stretch, where the next line, of that number, has one; then the day.
@@ -48,6 +49,22 @@ fn from_carried_on<W: TalliedWeight, C: Calendar>(
     }
 }
 
+// The calendar that the second line makes, or the end of the account where it makes none.
+fn from_made<W: TalliedWeight, C: Calendar + Drop>(
+    rt: &HostRuntime,
+    line: &[u8],
+    script: &[u8],
+    made: Result<C, CalendarFault>,
+) -> anyhow::Result<()> {
+    match made {
+        Ok(calendar) => {
+            say(rt, line, "accepted")?;
+            from_carried_on::<W, C>(rt, &calendar, script)
+        }
+        Err(fault) => end_refused(rt, line, fault.number()),
+    }
+}
+
 // The calendar of the second line.
 pub(crate) fn from_calendar<W: TalliedWeight>(
     rt: &HostRuntime,
@@ -58,20 +75,12 @@ pub(crate) fn from_calendar<W: TalliedWeight>(
     }
     let (line, rest) = next_line(script);
     match base(rt.alloc(), line)? {
-        Some(Base::Even { links, end }) => match Even::new(links.min(255) as u8, end) {
-            Ok(calendar) => {
-                say(rt, line, "accepted")?;
-                from_carried_on::<W, Even>(rt, &calendar, rest)
-            }
-            Err(fault) => end_refused(rt, line, fault.number()),
-        },
-        Some(Base::Listed(masks)) => match Listed::new(masks.as_slice()) {
-            Ok(calendar) => {
-                say(rt, line, "accepted")?;
-                from_carried_on::<W, Listed<'_>>(rt, &calendar, rest)
-            }
-            Err(fault) => end_refused(rt, line, fault.number()),
-        },
+        Some(Base::Even { links, end }) => {
+            from_made::<W, Even>(rt, line, rest, Even::new(links.min(255) as u8, end))
+        }
+        Some(Base::Listed(masks)) => {
+            from_made::<W, Listed<'_>>(rt, line, rest, Listed::new(masks.as_slice()))
+        }
         None => end_at(rt, 2),
     }
 }

@@ -1,5 +1,5 @@
 // The text of each answer.
-ghost use Rattle.std.specs.Prelude.{◌≡◌, ℕ, List, Some, IfOk, string_bytes};
+ghost use Rattle.std.specs.Prelude.{◌≡◌, ◌++◌, ℕ, List, Some, IfOk, string_bytes};
 ghost use Rattle.account.specs.Texts.{refused_text, kept_text, answer_text, seat_text, stretch_text, kept_line, dropped_line, row_line, counts_text, totals_text, wrong_line, answered_line, listed_lines};
 
 use calls::terms::{Answer, StretchFault};
@@ -8,6 +8,7 @@ use std::alloc::{AllocError, Global};
 use std::fmt::Display;
 
 // A refusal.
+// Functions and no Display: these are Options and Results, which are not this crate's.
 pub(crate) fn refused_text(heap: Global, number: u8) -> Result<String, AllocError>
     ensures { IfOk result (λ t. string_bytes t ≡ refused_text number) }
 {
@@ -77,6 +78,7 @@ fn dropped_line(
 }
 
 // A line of the printed plan: a kept row with its seat, a dropped one with its stretch.
+// Not the core's print: that fills a lent buffer, and here each line is a String.
 pub(crate) fn row_line(
     heap: Global,
     row: &Row,
@@ -117,14 +119,21 @@ pub(crate) fn wrong_line(heap: Global, number: u64) -> Result<String, AllocError
     format!(in heap; "line {number}: not a command\n")
 }
 
+// A command as it stands, and the text behind it.
+fn joined(heap: Global, line: &[u8], text: &str) -> Result<Vec<u8>, AllocError>
+    ensures { IfOk result (λ v. v.items ≡ line.now ++ text.now) }
+{
+    let mut all = Vec::from_slice(heap, line)?;
+    all.extend_from_slice(text.as_bytes())?;
+    Ok(all)
+}
+
 // A command as it stands, a colon, a space, its answer and the end of the line.
 pub(crate) fn answered(heap: Global, line: &[u8], answer: &str) -> Result<Vec<u8>, AllocError>
     ensures { IfOk result (λ v. v.items ≡ answered_line line.now answer.now) }
 {
     let text = format!(in heap; ": {answer}\n")?;
-    let mut all = Vec::from_slice(heap, line)?;
-    all.extend_from_slice(text.as_bytes())?;
-    Ok(all)
+    joined(heap, line, text.as_str())
 }
 
 // A command as it stands, a colon, and the lines that answer it.
@@ -132,7 +141,5 @@ pub(crate) fn listed(heap: Global, line: &[u8], lines: &str) -> Result<Vec<u8>, 
     ensures { IfOk result (λ v. v.items ≡ listed_lines line.now lines.now) }
 {
     let text = format!(in heap; ":\n{lines}")?;
-    let mut all = Vec::from_slice(heap, line)?;
-    all.extend_from_slice(text.as_bytes())?;
-    Ok(all)
+    joined(heap, line, text.as_str())
 }

@@ -20,6 +20,7 @@ pub(crate) trait WrittenWeight: OrderedWeight + Default {
     ghost figures_in: { List ℕ → Option (Option (List ℕ)) };
 
     // None where the text has not the kind's form, an error where it is out of range.
+    // No FromStr: a script is bytes, and a wrong form and a wrong range end differently.
     fn parse(text: &[u8]) -> Option<Result<Self, WeightFault>>
         ensures { option_map (answer_figures figures) result ≡ figures_in text.now };
 }

@@ -25,6 +25,7 @@ pub fn read_front(input: &mut impl Read, buffer: &mut [u8]) -> io::Result<usize>
 {
     let size = buffer.len();
     let mut rest = buffer;
+    // A loop of reads into a buffer of fixed size: an endless input takes no more memory than its front.
     while !rest.is_empty() {
         let got = input.read(rest)?;
         if got == 0 {

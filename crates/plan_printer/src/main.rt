@@ -11,6 +11,7 @@ use std::alloc::Global;
 use std::io::Write;
 
 // The text of a sheet, all of it and nothing else, and whether it is the line of a refusal.
+// A flag beside the text: either way there is a text, and the flag says which.
 fn printed(heap: Global, sheet: &[u8]) -> anyhow::Result<(Vec<u8>, bool)>
     ensures { IfOk result (λ p. TextFor sheet.now p.1 p.0.items) }
 {

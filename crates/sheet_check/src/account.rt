@@ -6,7 +6,6 @@ ghost use Rattle.sheet_check.specs.Accounts.{job_line, head_lines, refusal_line,
 
 use crate::printed::PrintedWeight;
 use crate::rank::ranked_jobs;
-use anyhow::anyhow;
 use calendars::calendar::Calendar;
 use calendars::listed::Listed;
 use calendars::places::open_places;
@@ -18,35 +17,27 @@ use std::alloc::{AllocError, Global};
 fn job_line<W: PrintedWeight>(heap: Global, job: &Job<W>) -> Result<String, AllocError>
     ensures { IfOk result (λ t. string_bytes t ≡ job_line W.PrintedWeight.written job.now) }
 {
-    let number = job.number;
-    let ready = job.ready;
-    let deadline = job.deadline;
-    let weight = job.weight;
+    let Job { number, ready, deadline, weight } = *job;
     format!(in heap; "job {number} ready {ready} deadline {deadline} weight {weight}\n")
 }
 
-// A sheet that was read has at most 1,024 masks, so that its calendar is always made.
-fn head_lines<W: PrintedWeight>(heap: Global, sheet: &Sheet<'_, W>) -> anyhow::Result<String>
+// A sheet has at most 1,024 masks, so that its calendar is always made.
+fn head_lines<W: PrintedWeight>(heap: Global, sheet: &Sheet<'_, W>) -> Result<String, AllocError>
     ensures { IfOk result (λ t. string_bytes t ≡ head_lines W.PrintedWeight.called (length sheet.now.masks.now) (opens (listed_mask sheet.now.masks.now) 1024) sheet.now.count) }
 {
-    let Ok(calendar) = Listed::new(sheet.masks()) else {
-        return Err(anyhow!("the calendar is too long"));
-    };
+    let calendar = Listed::new(sheet.masks()).unwrap();
     let kind = W::kind_name();
     let end = calendar.end();
     let places = open_places(&calendar);
     let count = sheet.job_count();
-    let text = format!(in heap;
-        "kind {kind}\ncalendar end {end}\nopen places {places}\njobs {count}\n"
-    )?;
-    Ok(text)
+    format!(in heap; "kind {kind}\ncalendar end {end}\nopen places {places}\njobs {count}\n")
 }
 
 // The whole account of a sheet that was read.
 pub(crate) fn account<W: PrintedWeight>(
     heap: Global,
     sheet: &Sheet<'_, W>,
-) -> anyhow::Result<String>
+) -> Result<String, AllocError>
     ensures { IfOk result (λ t. Account W.OrderedWeight.no_lighter W.OrderedWeight.encoding W.PrintedWeight.called W.PrintedWeight.written sheet.now.masks.now sheet.now.records.now sheet.now.count (string_bytes t)) }
 {
     let mut text = head_lines(heap, sheet)?;

@@ -39,6 +39,7 @@ fn main(rt: HostRuntime) -> anyhow::Result<()> {
     let mut buffer = vec![in rt.alloc(); 0u8; widest_front()]?;
     let len = read_front(&mut rt.stdin(), buffer.as_mut_slice())?;
     let bytes = &buffer[0..len];
+    // One line for each kind: a trait of visitors would be longer.
     match kind_of(bytes) {
         Ok(Kind::Points) => report::<Points>(&rt, bytes),
         Ok(Kind::Classed) => report::<Classed>(&rt, bytes),

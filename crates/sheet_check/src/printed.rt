@@ -14,6 +14,7 @@ pub(crate) trait PrintedWeight: OrderedWeight + Display {
 
     ghost written: { Self → List ℕ };
 
+    // A function: the names are text for this program only.
     fn kind_name() -> &'static str
         ensures { result.now ≡ called };
 
