@@ -17,7 +17,12 @@ use std::alloc::{AllocError, Global};
 fn job_line<W: PrintedWeight>(heap: Global, job: &Job<W>) -> Result<String, AllocError>
     ensures { IfOk result (λ t. string_bytes t ≡ job_line W.PrintedWeight.written job.now) }
 {
-    let Job { number, ready, deadline, weight } = *job;
+    let Job {
+        number,
+        ready,
+        deadline,
+        weight,
+    } = *job;
     format!(in heap; "job {number} ready {ready} deadline {deadline} weight {weight}\n")
 }
 
