@@ -11,10 +11,7 @@ impl StoreFault {
     pub fn number(&self) -> u8
         ensures { result ≡ store_fault_number self.now }
     {
-        match self {
-            StoreFault::TooShort => 14,
-            StoreFault::OutOfRank => 6,
-        }
+        *self as u8
     }
 }
 
@@ -52,9 +49,6 @@ impl StretchFault {
     pub fn number(&self) -> u8
         ensures { result ≡ stretch_fault_number self.now }
     {
-        match self {
-            StretchFault::NumberUnknown => 12,
-            StretchFault::JobKept => 13,
-        }
+        *self as u8
     }
 }

@@ -13,9 +13,9 @@ pub enum Call<W> {
 #[derive(Clone, Copy, Debug, PartialEq, Eq)]
 pub enum StoreFault {
     // It has fewer than 256 entries.
-    TooShort,
+    TooShort = 14,
     // Its first entries do not put the plan's jobs in rank order.
-    OutOfRank,
+    OutOfRank = 6,
 }
 
 // Why a call is refused.
@@ -31,9 +31,9 @@ pub enum CallFault {
 // Why a job has no stretch.
 #[derive(Clone, Copy, Debug, PartialEq, Eq)]
 pub enum StretchFault {
-    NumberUnknown,
+    NumberUnknown = 12,
     // It is kept.
-    JobKept,
+    JobKept = 13,
 }
 
 // What a call answers: whether the named job is kept now and the number of the other job whose standing changed, or why it is refused.

@@ -11,16 +11,16 @@ use weights::fault::WeightFault;
 #[derive(Clone, Copy, Debug, PartialEq, Eq)]
 pub enum SheetFault {
     // The sheet ends inside a record.
-    EndsInside,
-    UnknownTag,
+    EndsInside = 1,
+    UnknownTag = 2,
     // A record is out of order or missing.
-    OutOfOrder,
+    OutOfOrder = 3,
     // The kind code is not the one asked for.
-    OtherKind,
+    OtherKind = 4,
     // The length is wrong for the tag.
-    WrongLength,
+    WrongLength = 5,
     // The bytes are no weight of the kind.
-    NoWeight,
+    NoWeight = 7,
 }
 
 // The reader's fault or the table's, whole, with the byte of the refused record's tag.
@@ -35,14 +35,7 @@ impl SheetFault {
     pub fn number(&self) -> u8
         ensures { result ≡ sheet_fault_number self.now }
     {
-        match self {
-            SheetFault::EndsInside => 1,
-            SheetFault::UnknownTag => 2,
-            SheetFault::OutOfOrder => 3,
-            SheetFault::OtherKind => 4,
-            SheetFault::WrongLength => 5,
-            SheetFault::NoWeight => 7,
-        }
+        *self as u8
     }
 
     // The same fault, as that of the record whose tag stands at this byte.

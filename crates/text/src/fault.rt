@@ -7,7 +7,7 @@ use std::fmt;
 #[derive(Clone, Copy, Debug, PartialEq, Eq)]
 pub enum BufferFault {
     // The text is longer than the buffer.
-    TooShort,
+    TooShort = 15,
 }
 
 impl BufferFault {
@@ -17,9 +17,7 @@ impl BufferFault {
     pub fn number(&self) -> u8
         ensures { result ≡ buffer_fault_number self.now }
     {
-        match self {
-            BufferFault::TooShort => 15,
-        }
+        *self as u8
     }
 }
 

@@ -5,7 +5,7 @@ ghost use Rattle.weights.specs.Fault.{weight_fault_number};
 // The one cause: the bytes, or the numbers handed to a constructor, are no weight of the kind.
 #[derive(Clone, Copy, Debug, PartialEq, Eq)]
 pub enum WeightFault {
-    NoWeight,
+    NoWeight = 7,
 }
 
 impl WeightFault {
@@ -13,9 +13,7 @@ impl WeightFault {
     pub fn number(&self) -> u8
         ensures { result ≡ weight_fault_number self.now }
     {
-        match self {
-            WeightFault::NoWeight => 7,
-        }
+        *self as u8
     }
 }
 

@@ -51,6 +51,7 @@ impl OrderedWeight for Classed {
         Classed::new(*class, u16::from_be_bytes([*high, *low]))
     }
 
+    // A guard and a copy, as in each kind: one function for both would be no shorter.
     fn write(&self, space: &mut [u8]) -> Result<(), WrongWidth> {
         if space.len() != Self::WIDTH {
             return Err(WrongWidth);

@@ -46,6 +46,7 @@ impl OrderedWeight for Points {
         Points::new(u32::from_be_bytes([*a, *b, *c, *d]))
     }
 
+    // A guard and a copy, as in each kind: one function for both would be no shorter.
     fn write(&self, space: &mut [u8]) -> Result<(), WrongWidth> {
         if space.len() != Self::WIDTH {
             return Err(WrongWidth);

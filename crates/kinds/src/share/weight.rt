@@ -50,6 +50,7 @@ impl OrderedWeight for Share {
         Share::new(u16::from_be_bytes([*a, *b]), u16::from_be_bytes([*c, *d]))
     }
 
+    // A guard and a copy, as in each kind: one function for both would be no shorter.
     fn write(&self, space: &mut [u8]) -> Result<(), WrongWidth> {
         if space.len() != Self::WIDTH {
             return Err(WrongWidth);
