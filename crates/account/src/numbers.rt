@@ -23,7 +23,7 @@ fn number_up_to(text: &[u8], most: u32) -> Option<u32>
     Some(value as u32)
 }
 
-// A number up to 4,294,967,295.
+// A number up to 4,294,967,295. One line for each width: one function for both would carry the type and the bound.
 pub(crate) fn long_number(text: &[u8]) -> Option<u32>
     ensures { result ≡ number_of 4294967295 text.now }
 {

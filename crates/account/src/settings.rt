@@ -9,7 +9,7 @@ use crate::words::{cut, is_word};
 use sheets::kind::Kind;
 use std::alloc::{AllocError, Global};
 
-// The kind of that name.
+// The kind of that name. No FromStr: a script is bytes, and a wrong name is no command rather than a refusal.
 fn kind_named(name: &[u8]) -> Option<Kind>
     ensures { result ≡ kind_of name.now }
 {

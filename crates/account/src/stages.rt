@@ -1,4 +1,5 @@
-// The lines that set a script up: a calendar, carried on or not, and a closed stretch or none.
+// The lines that set a script up: a calendar, carried on or not, and a closed stretch or none. One function after the other, with what the
+// next one needs: each layer makes a calendar of another type.
 use crate::day::day;
 use crate::output::{end_at, end_refused, say};
 use crate::settings::{base, closed};

@@ -1,4 +1,5 @@
-// The text of each answer.
+// The text of each answer. Functions and no Display: the words are this program's, the values those of other crates. A refusal is said by its
+// number, since the faults of calendars, weights, calls and questions are said alike; a stretch is a pair, as the plan answers it.
 ghost use Rattle.std.specs.Prelude.{◌≡◌, ◌++◌, ℕ, List, Some, IfOk, string_bytes};
 ghost use Rattle.account.specs.Texts.{refused_text, kept_text, answer_text, seat_text, stretch_text, kept_line, dropped_line, row_line, counts_text, totals_text, wrong_line, answered_line, listed_lines};
 
@@ -8,7 +9,6 @@ use std::alloc::{AllocError, Global};
 use std::fmt::Display;
 
 // A refusal.
-// Functions and no Display: these are Options and Results, which are not this crate's.
 pub(crate) fn refused_text(heap: Global, number: u8) -> Result<String, AllocError>
     ensures { IfOk result (λ t. string_bytes t ≡ refused_text number) }
 {

@@ -29,7 +29,7 @@ pub(crate) fn next_line(text: &[u8]) -> (&[u8], &[u8])
     cut(text, b'\n').unwrap_or((text, &[]))
 }
 
-// What follows so many lines.
+// What follows so many lines: each turn cuts one off what the last one left.
 pub(crate) fn past_lines(text: &[u8], count: usize) -> &[u8]
     ensures rest { result.now ≡ rest_after count text.now }
     ensures shorter { length result.now ≤ length text.now }

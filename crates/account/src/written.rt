@@ -25,7 +25,7 @@ pub(crate) trait WrittenWeight: OrderedWeight + Default {
         ensures { option_map (answer_figures figures) result ≡ figures_in text.now };
 }
 
-// The class of that name.
+// The class of that name. No FromStr: a script is bytes, and a wrong name is no command rather than a refusal.
 fn class_named(name: &[u8]) -> Option<Class>
     ensures { option_map class_level result ≡ level_of name.now }
 {

@@ -1,4 +1,4 @@
-// The seat of each row, read off the places.
+// The seat of each row, read off the places. Calendar, places and seats come one by one: a struct of them would be made for these two alone.
 ghost use Rattle.std.specs.Prelude.{◌≡◌, ℕ, ◌+◌, ◌<◌, ◌≤◌, length, count_ones, slice_index};
 ghost use Rattle.calendars.specs.Places.{opens};
 ghost use Rattle.drawing.specs.Seats.{Once, SeatsRead};

@@ -35,6 +35,7 @@ pub fn sheet_text(sheet: &[u8], out: &mut [u8]) -> Result<SheetText, BufferFault
     ensures short { IfOk result (λ s. s.length ≤ 5120) }
     ensures alone { SheetTextOnce }
 {
+    // One line for each kind: types cannot be gone over.
     texts_are_alone::<Points>();
     texts_are_alone::<Classed>();
     texts_are_alone::<Share>();

@@ -10,7 +10,7 @@ use sheets::front::deciding_front;
 use std::io;
 use std::io::Read;
 
-// As much of a sheet as decides its reading, whichever of the three kinds it is of.
+// As much of a sheet as decides its reading, whichever of the three kinds it is of: one line each, since types cannot be gone over.
 pub fn widest_front() -> usize
     ensures { result ≡ 4372 }
 {

@@ -18,7 +18,7 @@ pub struct Classed {
 
 impl Classed {
     // A weight of the class with that level, 0 for QM to 4 for D, and that many points; refused exactly where the level is
-    // above 4 or there are no points.
+    // above 4 or there are no points. The level and no class, as sheets write it.
     pub fn new(class: u8, points: u16) -> Result<Classed, WeightFault>
         ensures { MatchResult result (λ w. (class_level w.class ≡ class) × (w.points ≡ points)) (λ e. (e ≡ NoWeight) × ((class ≤ 4) × (1 ≤ points) → ⊥)) }
     {

@@ -1,4 +1,4 @@
-// The tests that the definitions of a plan are made of.
+// The tests that the definitions of a plan are made of: of bare numbers, as the definitions are, since jobs and rows both have them.
 ghost use Rattle.std.specs.Prelude.{◌≡◌, Decides};
 ghost use Rattle.placing.specs.Orders.{ServedFirst, goes_first};
 ghost use Rattle.placing.specs.Placing.{InWindow};

@@ -56,6 +56,7 @@ impl Plan {
         tally(self.rows(), store)
     }
 
+    // A question of its own, since a kind without totals has none to ask for.
     // The tally, with the total of the kept jobs' weights and that of the dropped ones. Refused as the tally is.
     pub fn tally_totals<W: TotalledWeight>(
         &self,

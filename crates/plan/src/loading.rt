@@ -13,8 +13,9 @@ use weights::kind::OrderedWeight;
 
 impl Plan {
     // Opens the plan anew with the jobs of a sheet, all or none, under the listed calendar of the sheet's masks, ending or carried on,
-    // and hands out these masks. The calendar is made here, of one of two forms, so that a flag says which. Refused for a store under 256 entries (14), and then exactly as the reader refuses the sheet; plan and
+    // and hands out these masks. Refused for a store under 256 entries (14), and then exactly as the reader refuses the sheet; plan and
     // store are then as before. A loaded plan is the plan of the sheet's jobs, so that a run of calls under this calendar may begin with it.
+    // A flag says which of two forms the calendar has, since it is made here.
     pub fn load<'a, W: OrderedWeight>(
         &mut self,
         store: &mut [W],

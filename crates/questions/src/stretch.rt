@@ -1,5 +1,5 @@
 // The stretch of a row: the smallest run of slots round its window that holds the whole window of each row seated in it.
-// A run is given by its first slot and the slot after its last.
+// A run is a pair, its first slot and the slot after its last, as the definitions have it.
 ghost use Rattle.std.specs.Prelude.{◌<◌, ◌≤◌, length, MatchOption};
 ghost use Rattle.placing.specs.Plan.{Closed, Stretch};
 ghost use Rattle.questions.specs.Widening.{Inside, Widened};
@@ -13,6 +13,7 @@ pub fn stretch_at(rows: &[Row], rank: usize) -> Option<(u16, u16)>
     let row = rows.get(rank)?;
     let mut lo = row.ready;
     let mut hi = row.deadline;
+    // A bare loop: it ends with the first pass that widens nothing.
     loop {
         let (from, to) = widen(rows, lo, hi);
         if from == lo && to == hi {

@@ -39,6 +39,8 @@ pub fn perform<W: OrderedWeight, C: Calendar>(
 // store: then after each call, accepted or refused, the plan is the plan of the table then (the one it began with, changed by the
 // accepted calls alone), no rival keeps more at any weight level, each dropped job has its stretch full of kept jobs no lighter, and
 // the call has changed the standing of no job but the named one and at most one other, which it answers.
+//
+// Plan, calendar and store are lent anew, as for each call; the answers go into the caller's slice, since there is no heap.
 pub fn replay<W: OrderedWeight, C: Calendar>(
     plan: &mut Plan,
     calendar: &C,
@@ -62,6 +64,7 @@ pub fn replay<W: OrderedWeight, C: Calendar>(
     performed
 }
 
+// Apart from `replay`, since a kind without totals has no such promise.
 // The same for a kind with totals, and the whole promise with its last part: after each call no rival's kept total is heavier.
 pub fn replay_totalled<W: TotalledWeight, C: Calendar>(
     plan: &mut Plan,

@@ -1,3 +1,4 @@
+// Texts by functions and no Display: the words are this program's, the values those of other crates.
 // The account of a sheet: its kind, the end of its calendar, the open places, the number of jobs, and the jobs in rank order.
 ghost use Rattle.std.specs.Prelude.{◌≡◌, length, IfOk, string_bytes};
 ghost use Rattle.calendars.specs.Masks.{listed_mask};

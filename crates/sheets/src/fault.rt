@@ -38,7 +38,7 @@ impl SheetFault {
         *self as u8
     }
 
-    // The same fault, as that of the record whose tag stands at this byte.
+    // The same fault, as that of the record whose tag stands at this byte: no From, since the byte goes in beside the fault.
     pub(crate) fn at(self, byte: usize) -> LoadFault
         ensures { result ≡ Sheet self byte }
     {

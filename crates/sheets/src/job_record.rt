@@ -23,7 +23,7 @@ pub(crate) fn job_of<W: OrderedWeight>(value: &[u8]) -> Result<Job<W>, WeightFau
     })
 }
 
-// Whether one of the jobs of these records has the number.
+// Whether one of the jobs of these records has the number. Rows and lists of jobs have a search of their own: there is no common type.
 pub(crate) fn number_taken<W: OrderedWeight>(records: &[u8], number: u16) -> bool
     ensures { (jobs : List (Job W)) → records.now ≡ job_records W.OrderedWeight.encoding jobs → result ≡ taken number jobs }
 {

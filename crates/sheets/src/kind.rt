@@ -15,7 +15,7 @@ pub enum Kind {
 }
 
 impl Kind {
-    // Its code in a sheet.
+    // Its code in a sheet, which the weights have too: they know no sheets, and there may be other kinds.
     pub fn code(self) -> u8
         ensures { result ≡ kind_code self }
     {
@@ -38,7 +38,7 @@ impl TryFrom<u8> for Kind {
     }
 }
 
-// The code in the kind record, which is the first.
+// The code in the kind record, which is the first: a number and no kind, since a reader may be asked for any.
 pub(crate) fn code_of(sheet: &[u8]) -> Result<u8, SheetFault>
     ensures { MatchResult result (λ code. Framed 1 1 1 sheet.now (code ∷ [])) (λ fault. FrameFault 1 1 1 sheet.now fault) }
 {

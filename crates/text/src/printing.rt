@@ -56,8 +56,9 @@ pub fn print(plan: &Plan, out: &mut [u8]) -> Result<usize, BufferFault>
     deliver(text.as_str(), out)
 }
 
-// Prints the line of a refusal, its number and its byte, at the buffer's front, and answers the line's length; the rest of the buffer
-// stays as it was. Refused for a buffer that is shorter than the line (15), and then the buffer stays as it was.
+// Prints the line of a refusal at the buffer's front and answers the line's length; the rest of the buffer stays as it was. It is handed
+// number and byte, so that a text need not know whose fault it is. Refused for a buffer that is shorter than the line (15), and then the
+// buffer stays as it was.
 pub fn print_refusal(number: u8, byte: usize, out: &mut [u8]) -> Result<usize, BufferFault>
     ensures cases { Delivered (refusal_line number byte) out.old out.new result }
     ensures short { IfOk result (λ n. n ≤ 36) }

@@ -8,7 +8,7 @@ use crate::fault::BufferFault;
 use arrayvec::ArrayString;
 use itoa::Buffer;
 
-// Appends a line: a number, a mark and two more numbers.
+// Appends a line: a number, a mark and two more numbers. By pieces and no Display: each piece has a known length, so that there is room.
 pub(crate) fn push_line<const CAP: usize>(
     text: &mut ArrayString<CAP>,
     number: u16,

@@ -7,13 +7,13 @@ use crate::fault::{WeightFault, WrongWidth};
 
 // A kind of weight. Its meaning is the relation 'no lighter' and the bytes of each weight.
 pub trait OrderedWeight: Copy {
-    // The kind's code in a sheet.
+    // The kind's code in a sheet: a number, since there may be kinds that no list of ours has.
     const CODE: u8;
 
     // How many bytes a weight takes.
     const WIDTH: usize;
 
-    // The two constants for clauses, which a kind states once more.
+    // The two constants for clauses: a kind states them once more, and the check compares.
     ghost CODE: { ℕ };
 
     ghost WIDTH: { ℕ };

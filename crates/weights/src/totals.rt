@@ -4,7 +4,8 @@ ghost use Rattle.weights.specs.Picking.{Counted, picked_of};
 
 use crate::kind::{OrderedWeight, TotalledWeight};
 
-// The total of the picked ones of the first n weights, since a store is longer than what it serves; None exactly where n is above 256 or above a length.
+// The total of the picked ones of the first n weights, since a store is longer than what it serves; None exactly where n is above 256
+// or above a length.
 pub fn total_of<W: TotalledWeight>(weights: &[W], picked: &[bool], n: usize) -> Option<W::Total>
     ensures { MatchOption result (Counted n picked.now weights.now → ⊥) (λ t. Counted n picked.now weights.now × (t ≡ fold W.TotalledWeight.plus W.TotalledWeight.nothing (picked_of (take n picked.now) (take n weights.now)))) }
 {

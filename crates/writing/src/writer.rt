@@ -44,8 +44,9 @@ fn put_sheet<W: OrderedWeight, C: Calendar>(
 }
 
 // Writes the sheet of the plan's table under the calendar at the front of the buffer, the jobs in rank order with the store's weights,
-// and answers how many bytes it has; the rest of the buffer stays. The sheet reads back as this table and calendar. Refused for a store
-// that is too short (14) or out of rank order (6) and a buffer that is too short (15); the buffer is then as before.
+// and answers how many bytes it has, a length and no slice as `print` does; the rest of the buffer stays. The sheet reads back as this
+// table and calendar. Refused for a store that is too short (14) or out of rank order (6) and a buffer that is too short (15); the buffer
+// is then as before.
 pub fn write<W: OrderedWeight, C: Calendar>(
     plan: &Plan,
     calendar: &C,

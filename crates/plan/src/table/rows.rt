@@ -11,6 +11,7 @@ use super::Table;
 use crate::shift::{close_at, open_at};
 use jobs::terms::{Row, Seat};
 
+// What fills the rows not in use. No Default, since no job has the number 0.
 const BLANK: Row = Row {
     number: 0,
     ready: 0,
