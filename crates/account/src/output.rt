@@ -1,4 +1,4 @@
-// What the account prints, and how it ends.
+// What the account prints, and how it ends. A refusal is handed on by its number, since the faults of four crates are said alike.
 use crate::text::{answered, refused_text, wrong_line};
 use anyhow::anyhow;
 use std::io::Write;

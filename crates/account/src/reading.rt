@@ -45,7 +45,7 @@ fn offer<W: WrittenWeight>(text: &[u8]) -> Option<Command<W>>
     offered::<W>(name, ready, deadline, weight)
 }
 
-// What follows `reweigh`: number and weight.
+// What follows `reweigh`: number and weight. It ends as `offered` does but for the call: one function would take that as a closure.
 fn reweigh<W: WrittenWeight>(text: &[u8]) -> Option<Command<W>>
     ensures { option_map (command_figures W.WrittenWeight.figures) result ≡ reweigh_in W.WrittenWeight.figures_in text.now }
 {
