@@ -7,15 +7,15 @@ use Rattle.std.proofs.lemmas.List.Sums.{fails_before_first}
 use Rattle.account.specs.Words.{behind, cut_at}
 
 module _ (c : ℕ) where
-  missing : (text : List ℕ) → ((k : ℕ) → k < length text → get_or text k 0 ≡ c → ⊥) → cut_at c text ≡ None
+  pub missing : (text : List ℕ) → ((k : ℕ) → k < length text → get_or text k 0 ≡ c → ⊥) → cut_at c text ≡ None
   missing [] none = refl
   missing (x ∷ xs) none = cond-false _ _ _ (ne_eqb x c (none 0 (omega arith))) ∙ ap (behind x) (missing xs (λ k h. none (suc k) (omega arith)))
 
-  first_at : (text : List ℕ) (i : ℕ) → i < length text → ((k : ℕ) → k < i → get_or text k 0 ≡ c → ⊥) → get_or text i 0 ≡ c → cut_at c text ≡ Some (take i text, drop (suc i) text)
-  first_at [] i h none e = absurd (omega arith)
-  first_at (x ∷ xs) zero h none e = cond-true _ _ _ (eq-eqb x c e)
-  first_at (x ∷ xs) (suc i) h none e =
-      cond-false _ _ _ (ne_eqb x c (none 0 (omega arith))) ∙ ap (behind x) (first_at xs i (omega arith) (λ k l. none (suc k) (omega arith)) e)
+  pub cut_at_lem : (text : List ℕ) (i : ℕ) → i < length text → ((k : ℕ) → k < i → get_or text k 0 ≡ c → ⊥) → get_or text i 0 ≡ c → cut_at c text ≡ Some (take i text, drop (suc i) text)
+  cut_at_lem [] i h none e = absurd (omega arith)
+  cut_at_lem (x ∷ xs) zero h none e = cond-true _ _ _ (eq-eqb x c e)
+  cut_at_lem (x ∷ xs) (suc i) h none e =
+      cond-false _ _ _ (ne_eqb x c (none 0 (omega arith))) ∙ ap (behind x) (cut_at_lem xs i (omega arith) (λ k l. none (suc k) (omega arith)) e)
 
   pub cut_none : (text : List ℕ) → None ≡ position (λ x. eqb x c) text → None ≡ cut_at c text
   cut_none text e = at (nat_lt (position_or_len (λ x. eqb x c) text) (length text)) refl e
@@ -28,4 +28,4 @@ module _ (c : ℕ) where
   pub cut_some : (text : List ℕ) (i : ℕ) → Some i ≡ position (λ x. eqb x c) text → Some (take i text, drop (suc i) text) ≡ cut_at c text
   cut_some text i e =
       let first = position-Some (λ x. eqb x c) text i 0 (sym e) in
-      sym (first_at text i first.0 (λ k h. eqb-false (get_or text k 0) c (first.2 k h)) (eqb-true (get_or text i 0) c first.1))
+      sym (cut_at_lem text i first.0 (λ k h. eqb-false (get_or text k 0) c (first.2 k h)) (eqb-true (get_or text i 0) c first.1))

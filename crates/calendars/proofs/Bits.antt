@@ -1,11 +1,11 @@
 -- Bits of a mask: how many are set below a bit, the lowest ones, those that another mask leaves.
-use Rattle.std.proofs.Common.{◌≡◌, ℕ, zero, suc, ◌+◌, ◌-◌, ◌/◌, ◌%◌, ◌^◌, ◌<◌, ◌≤◌, Bool, cond, eqb, ltb, List, ◌∷◌, Option, None, Some, MatchOption, sym, ap, subst, ◌∙◌, add_comm, one-add, arith, lit<, pow_mono}
-use Rattle.std.specs.List.{slice_get, filter, range_with_len}
+use Rattle.std.proofs.Common.{◌≡◌, ℕ, zero, suc, ◌+◌, ◌-◌, ◌/◌, ◌%◌, ◌^◌, ◌<◌, ◌≤◌, Bool, cond, eqb, ltb, List, ◌∷◌, Option, None, Some, MatchOption, sym, ap, ◌∙◌, ⊎_elim, add_comm, add-one, one-add, arith, lit<, pow_mono}
 use lib.Count.{ones, ones-ones, ones_cat}
 use lib.Bits.{bit_and, and_step}
 use native.Mathlib.Nat.{mod-one, two-pow-succ, div-eq_of_lt, zero-div}
 use Rattle.std.proofs.lemmas.Nat.{mod-pow-add, mod_below, pow_pos, shr_split, shr-shr, and_shr}
-use Rattle.std.proofs.lemmas.Bool.{cond_both, eqb-true, eqb-false, ltb-true, ltb-false}
+use Rattle.std.proofs.lemmas.Bool.{cond_both, ltb-true, ltb-false}
+use Rattle.std.proofs.Math.Nat.{eq-or-lt_of_le}
 use Rattle.calendars.specs.Masks.{link_open}
 use Rattle.calendars.specs.Places.{KthOpen}
 
@@ -34,27 +34,21 @@ abbrev CountedTo : (mask top wanted : ℕ) → Option ℕ → Type 0
 CountedTo mask top wanted bit =
     MatchOption bit (ones (mask % 2 ^ top) ≤ wanted) (λ b. (b < top) × (link_open mask b ≡ 1) × (ones (mask % 2 ^ b) ≡ wanted))
 
--- of the set bits from bit a on, the k-th
-kth_from : (mask k a n : ℕ)
-    → CountedTo mask (a + n) (k + ones (mask % 2 ^ a)) (slice_get (filter (λ b. eqb (link_open mask b) 1) (range_with_len a n)) k)
-kth_from mask k a zero = let none : a + 0 ≡ a = omega arith in omega (arith, ap (λ (x : ℕ). ones (mask % 2 ^ x)) none)
-kth_from mask k a (suc n) =
-    let set : ℕ → Bool = λ b. eqb (link_open mask b) 1 in
-    let rest : List ℕ = filter set (range_with_len (a + 1) n) in
-    let top : a + 1 + n ≡ a + suc n = omega arith in
-    let more = ones_below_more mask a in
-    let later : (j wanted : ℕ) → wanted ≡ j + ones (mask % 2 ^ (a + 1)) → CountedTo mask (a + suc n) wanted (slice_get rest j)
-    = λ j wanted e. let P : ℕ → Type 0 = λ w. CountedTo mask (a + suc n) w (slice_get rest j) in
-    let Q : ℕ → Type 0 = λ t. CountedTo mask t (j + ones (mask % 2 ^ (a + 1))) (slice_get rest j) in
-    subst P (sym e) (subst Q top (kth_from mask j (a + 1) n)) in
-    cond_both (set a) (a ∷ rest) rest (λ bits. CountedTo mask (a + suc n) (k + ones (mask % 2 ^ a)) (slice_get bits k))
-    (λ e. let open_here : link_open mask a ≡ 1 = eqb-true (link_open mask a) 1 e in
-    elim k as (λ j. CountedTo mask (a + suc n) (j + ones (mask % 2 ^ a)) (slice_get (a ∷ rest) j)) [
-      | zero ↦ (omega arith, open_here, omega arith)
-      | suc j ↦ later j _ (omega (arith, more))
-    ])
-    (λ e. let shut : link_open mask a ≡ 1 → ⊥ = eqb-false (link_open mask a) 1 e in
-    later k _ (omega (arith, more, shut, mod_below (mask / 2 ^ a) 2 (lit< tt))))
+-- where no bit below the top is the k-th, there are at most k below it
+none_kth : (mask k top : ℕ) → top ≤ 8 → ((b : ℕ) → b < 8 → KthOpen mask k b → ⊥) → ones (mask % 2 ^ top) ≤ k
+none_kth mask k zero h none = omega (arith, ones_below_none mask)
+none_kth mask k (suc n) h none =
+    let below = none_kth mask k n (omega arith) none in
+    let top : ones (mask % 2 ^ suc n) ≡ link_open mask n + ones (mask % 2 ^ n) = ap (λ (x : ℕ). ones (mask % 2 ^ x)) (sym (add-one n)) ∙ ones_below_more mask n in
+    let one : link_open mask n < 2 = mod_below (mask / 2 ^ n) 2 (lit< tt) in
+    ⊎_elim
+    (λ (e : ones (mask % 2 ^ n) ≡ k).
+    ⊎_elim
+    (λ (set : link_open mask n ≡ 1). absurd (none n (omega arith) (omega arith, set, e)))
+    (λ (shut : link_open mask n < 1). omega (arith, top))
+    (eq-or-lt_of_le (omega arith)))
+    (λ (fewer : ones (mask % 2 ^ n) < k). omega (arith, top))
+    (eq-or-lt_of_le below)
 
 within : (mask k : ℕ) (bit : Option ℕ) → mask < 256 → CountedTo mask 8 k bit
     → MatchOption bit (ones mask ≤ k) (λ b. (k < ones mask) × KthOpen mask k b)
@@ -65,15 +59,10 @@ within mask k (Some b) small h =
 
 -- the k-th set bit of a mask of eight
 pub kth_found : (mask k : ℕ) (bit : Option ℕ) → mask < 256
-    → bit ≡ slice_get (filter (λ b. eqb (link_open mask b) 1) (range_with_len 0 8)) k
+    → MatchOption bit ((b : ℕ) → 0 ≤ b → b < 8 → KthOpen mask k b → ⊥) (λ b. (0 ≤ b) × (b < 8) × KthOpen mask k b × ((j : ℕ) → 0 ≤ j → j < b → KthOpen mask k j → ⊥))
     → MatchOption bit (ones mask ≤ k) (λ b. (k < ones mask) × KthOpen mask k b)
-kth_found mask k bit small found =
-    let whole : k + ones (mask % 2 ^ 0) ≡ k = omega (arith, ones_below_none mask) in
-    let counted : CountedTo mask 8 k bit
-    = let P : ℕ → Type 0 = λ w. CountedTo mask 8 w bit in
-    let Q : Option ℕ → Type 0 = λ o. CountedTo mask 8 (k + ones (mask % 2 ^ 0)) o in
-    subst P whole (subst Q (sym found) (kth_from mask k 0 8)) in
-    within mask k bit small counted
+kth_found mask k None small h = within mask k None small (none_kth mask k 8 (omega arith) (λ b l. h b (omega arith) l))
+kth_found mask k (Some b) small h = within mask k (Some b) small h.2
 
 half_first : (n l : ℕ) → n / 2 ^ suc l ≡ n / 2 / 2 ^ l
 half_first n l = ap (λ (k : ℕ). n / 2 ^ k) (sym (one-add l)) ∙ sym (shr-shr n 1 l)

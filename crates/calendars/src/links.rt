@@ -1,5 +1,5 @@
 // The open links of a slot, counted from the lowest.
-ghost use Rattle.std.specs.Prelude.{◌<◌, ◌≤◌, MatchOption, count_ones};
+ghost use Rattle.std.specs.Prelude.{◌<◌, ◌≤◌, Decides, MatchOption, count_ones};
 ghost use Rattle.calendars.specs.Places.{KthOpen};
 
 use crate::calendar::Calendar;
@@ -15,7 +15,18 @@ pub fn kth_open_link<C: Calendar>(c: &C, slot: u16, k: u8) -> Option<u8>
 fn kth_bit(mask: u8, k: u8) -> Option<u8>
     ensures cases { MatchOption result (count_ones mask ≤ k) (λ bit. (k < count_ones mask) × KthOpen mask k bit) }
 {
-    (0..8u8)
-        .filter(|bit| (mask >> *bit) % 2 == 1)
-        .nth(usize::from(k))
+    (0..8u8).find(
+        |bit|
+            requires { bit.now < 8 }
+        { is_kth(mask, *bit, k) },
+    )
+}
+
+// Whether the bit is set, with exactly `k` set bits below it.
+fn is_kth(mask: u8, bit: u8, k: u8) -> bool
+    requires { bit < 8 }
+    ensures { Decides result (KthOpen mask k bit) }
+{
+    let below = mask & ((1 << bit) - 1);
+    (mask >> bit) % 2 == 1 && below.count_ones() == u32::from(k)
 }

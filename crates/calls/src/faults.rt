@@ -11,7 +11,7 @@ impl StoreFault {
     pub fn number(&self) -> u8
         ensures { result ≡ store_fault_number self.now }
     {
-        *self as u8
+        *self as u8 // 14 or 6
     }
 }
 
@@ -49,6 +49,6 @@ impl StretchFault {
     pub fn number(&self) -> u8
         ensures { result ≡ stretch_fault_number self.now }
     {
-        *self as u8
+        *self as u8 // 12 or 13
     }
 }

@@ -17,7 +17,8 @@ mod texts;
 
 // The text of a sheet of this kind.
 fn text_as(kind: Kind, sheet: &[u8], out: &mut [u8]) -> Result<SheetText, BufferFault>
-    ensures { (refused : Bool) × ((text : List ℕ) × TextAs kind sheet.now refused text × Handed refused text out.old out.new result) }
+    ensures cases { (refused : Bool) × ((text : List ℕ) × TextAs kind sheet.now refused text × Handed refused text out.old out.new result) }
+    ensures short { IfOk result (λ s. s.length ≤ 5120) }
 {
     // One line for each kind: a trait of visitors would be longer.
     match kind {

@@ -1,11 +1,8 @@
 // What a host is told of the text that was printed for it.
-ghost use Rattle.std.specs.Prelude.{◌≤◌};
 
 // How many bytes stand at the buffer's front, and whether they are the line of a refusal. A struct, since the length is that of either.
 #[derive(Clone, Copy, Debug, PartialEq, Eq)]
 pub struct SheetText {
     pub length: usize,
     pub refused: bool,
-    // 256 lines of at most 20 bytes.
-    pub ghost short: { length ≤ 5120 },
 }

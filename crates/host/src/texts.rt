@@ -1,5 +1,5 @@
 // The text of a sheet for one kind of weight.
-ghost use Rattle.std.specs.Prelude.{ℕ, ◌*◌, ◌^◌, ◌<◌, Bool, true, false, List};
+ghost use Rattle.std.specs.Prelude.{ℕ, ◌*◌, ◌^◌, ◌<◌, ◌≤◌, Bool, true, false, List, IfOk};
 ghost use Rattle.std.specs.Mem.{type_size};
 ghost use Rattle.plan.specs.Plans.{rows_in};
 ghost use Rattle.text.specs.Printing.{Printed};
@@ -13,7 +13,8 @@ use weights::kind::OrderedWeight;
 
 // The line of a refusal.
 pub(crate) fn refusal_text(fault: LoadFault, out: &mut [u8]) -> Result<SheetText, BufferFault>
-    ensures { (text : List ℕ) × RefusalText fault text × Handed true text out.old out.new result }
+    ensures cases { (text : List ℕ) × RefusalText fault text × Handed true text out.old out.new result }
+    ensures short { IfOk result (λ s. s.length ≤ 5120) }
 {
     let length = print_refusal(fault.number(), fault.byte(), out)?;
     Ok(SheetText {
@@ -24,7 +25,8 @@ pub(crate) fn refusal_text(fault: LoadFault, out: &mut [u8]) -> Result<SheetText
 
 // The text of a plan.
 fn plan_text(plan: &Plan, out: &mut [u8]) -> Result<SheetText, BufferFault>
-    ensures { (text : List ℕ) × Printed (rows_in plan.now) text × Handed false text out.old out.new result }
+    ensures cases { (text : List ℕ) × Printed (rows_in plan.now) text × Handed false text out.old out.new result }
+    ensures short { IfOk result (λ s. s.length ≤ 5120) }
 {
     let length = print(plan, out)?;
     Ok(SheetText {
@@ -39,7 +41,8 @@ pub(crate) fn text_with<W: OrderedWeight + Default>(
     out: &mut [u8],
 ) -> Result<SheetText, BufferFault>
     requires { 256 * type_size W.row < 2 ^ 63 }
-    ensures { (refused : Bool) × ((text : List ℕ) × TextOf W.OrderedWeight.CODE W.OrderedWeight.WIDTH W.OrderedWeight.encoding W.OrderedWeight.no_lighter sheet.now refused text × Handed refused text out.old out.new result) }
+    ensures cases { (refused : Bool) × ((text : List ℕ) × TextOf W.OrderedWeight.CODE W.OrderedWeight.WIDTH W.OrderedWeight.encoding W.OrderedWeight.no_lighter sheet.now refused text × Handed refused text out.old out.new result) }
+    ensures short { IfOk result (λ s. s.length ≤ 5120) }
 {
     let mut plan = Plan::open();
     let mut store = [W::default(); 256];

@@ -1,5 +1,5 @@
 // Weights and totals as text: points as a number, classed as the class, a colon and the points, a share as a fraction.
-ghost use Rattle.std.specs.Prelude.{Some, decimal};
+ghost use Rattle.std.specs.Prelude.{◌≡◌, Some, decimal};
 ghost use Rattle.kinds.specs.Printed.{class_name, points_text, classed_text, share_text, sums_text};
 
 use crate::class::Class;
@@ -9,17 +9,26 @@ use crate::share::Share;
 use std::fmt;
 use std::fmt::{Display, Formatter, Write};
 
-impl Display for Class {
-    ghost output = { λ c. Some (class_name c) };
-
-    fn fmt<F: Write>(&self, f: &mut Formatter<F>) -> fmt::Result {
-        f.write_str(match self {
+impl Class {
+    // Its name: always there, where to print it may fail.
+    pub fn name(&self) -> &'static str
+        ensures { result.now ≡ class_name self.now }
+    {
+        match self {
             Class::Qm => "QM",
             Class::A => "A",
             Class::B => "B",
             Class::C => "C",
             Class::D => "D",
-        })
+        }
+    }
+}
+
+impl Display for Class {
+    ghost output = { λ c. Some (class_name c) };
+
+    fn fmt<F: Write>(&self, f: &mut Formatter<F>) -> fmt::Result {
+        f.write_str(self.name())
     }
 }
 

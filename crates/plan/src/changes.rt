@@ -36,26 +36,25 @@ fn answer(before: &Table, after: &Table, named: u16) -> (bool, Option<u16>)
 }
 
 impl Plan {
-    // Puts a changed table, planned anew, in the place of the plan's own, and answers as `answer` does. The named job aside, no job of
+    // Plans a changed table anew and puts it in the place of the plan's own, and answers as `answer` does. The named job aside, no job of
     // the old table is missing in the changed one.
     fn change<C: Calendar>(
         &mut self,
         calendar: &C,
-        changed: Table,
+        changed: &mut Table,
         named: u16,
     ) -> (bool, Option<u16>)
-        requires windows { Windows (rows_of changed) }
-        requires numbered { Numbered (rows_of changed) }
-        requires stay { OthersStay (rows_in self.old) (rows_of changed) named }
-        ensures same { SameTable (rows_of changed) (rows_in self.new) }
+        requires windows { Windows (rows_of changed.old) }
+        requires numbered { Numbered (rows_of changed.old) }
+        requires stay { OthersStay (rows_in self.old) (rows_of changed.old) named }
+        ensures same { SameTable (rows_of changed.old) (rows_in self.new) }
         ensures drawn { Drawn earliest_then_lower (C.Calendar.mask calendar.now) (rows_in self.new) }
         ensures kept { (result.0 ≡ true → Stands (rows_in self.new) named Kept) × (Stands (rows_in self.new) named Kept → result.0 ≡ true) }
         ensures other { FirstOther (rows_in self.old) (rows_in self.new) named result.1 }
     {
-        let mut table = changed;
-        table.replan(calendar);
-        let answered = answer(&self.table, &table, named);
-        self.table = table;
+        changed.replan(calendar);
+        let answered = answer(&self.table, changed, named);
+        self.table = *changed;
         answered
     }
 
@@ -73,7 +72,7 @@ impl Plan {
         check_offer(&self.table, store, &job)?;
         let mut table = self.table;
         insert_ranked(&mut table, store, Row::from(&job), job.weight);
-        Ok(self.change(calendar, table, job.number))
+        Ok(self.change(calendar, &mut table, job.number))
     }
 
     // Takes the job with this number out of the table. Refused for a store that is too short (14) or out of rank order (6) and a number
@@ -90,7 +89,7 @@ impl Plan {
         let rank = named_rank(&self.table, store, number)?;
         let mut table = self.table;
         remove_ranked(&mut table, store, rank);
-        Ok(self.change(calendar, table, number))
+        Ok(self.change(calendar, &mut table, number))
     }
 
     // Gives the job with this number another weight. Refused as a withdrawal is; plan and store are then as before.
@@ -109,6 +108,6 @@ impl Plan {
         let row = table.row(from);
         remove_ranked(&mut table, store, from);
         insert_ranked(&mut table, store, row, weight);
-        Ok(self.change(calendar, table, number))
+        Ok(self.change(calendar, &mut table, number))
     }
 }

@@ -25,7 +25,7 @@ module _ {W : Type 0} (code width : ℕ) (encoding : W → List ℕ) (before : L
     job_framed : Framed 3 (6 + width) (6 + width) (drop at sheet) (job_value encoding job)
     job_framed = subst (λ v. Framed 3 (6 + width) (6 + width) (drop at sheet) v) (sym same) (framed_here value f)
 
-    table_refused : (fault : TableFault) → RefusedFor job.number job.ready job.deadline b count fault → (at ≡ at) × JobCause code width encoding before (drop at sheet) (Table fault at)
+    pub table_refused : (fault : TableFault) → RefusedFor job.number job.ready job.deadline b count fault → (at ≡ at) × JobCause code width encoding before (drop at sheet) (Table fault at)
     table_refused fault h = (
       refl,
       (

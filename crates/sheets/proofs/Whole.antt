@@ -1,10 +1,12 @@
 -- The whole sheet, from its kind record, its calendar record and its job records.
-use Rattle.std.proofs.Common.{◌≡◌, ℕ, ◌+◌, ◌-◌, ◌≤◌, List, [], ◌∷◌, ◌++◌, length, take, drop, sym, ap, ◌∙◌, subst, inr, arith}
+use Rattle.std.proofs.Common.{◌≡◌, ℕ, ◌+◌, ◌-◌, ◌≤◌, List, [], ◌∷◌, ◌++◌, length, take, drop, sym, refl, ap, ◌∙◌, subst, inl, inr, arith}
 use Rattle.std.proofs.lemmas.List.{append_assoc, take_rest, take-append-drop, drop_at, drop-drop, length-append, length-drop, length-take-le}
+use Rattle.sheets.specs.declared.fault.SheetFault.{SheetFault}
 use Rattle.sheets.specs.declared.fault.LoadFault.{LoadFault}
+use Rattle.sheets.specs.declared.fault.LoadFault.TheVariants.{Sheet}
 use Rattle.sheets.specs.Faults.{load_fault_byte}
-use Rattle.sheets.specs.Format.{record_bytes, job_records, kind_record, Framed, Refused}
-use Rattle.sheets.specs.Steps.{JobsRefused}
+use Rattle.sheets.specs.Format.{record_bytes, job_records, kind_record, Framed, FrameFault, Accepted, Refused}
+use Rattle.sheets.specs.Steps.{JobsRead, JobsRefused}
 
 -- the kind record has the code, and the calendar's masks follow
 pub record Begun (code : ℕ) (sheet masks : List ℕ) : Type 0 where
@@ -35,12 +37,34 @@ module _ (code : ℕ) (sheet : List ℕ) (kind : Framed 1 1 1 sheet (code ∷ []
         few = f.long.1;
       }
 
+  module _ {W : Type 0} (width : ℕ) (encoding : W → List ℕ) where
+    pub calendar_refused : (fault : SheetFault) → FrameFault 2 0 1024 (take (length sheet - 4) (drop 4 sheet)) fault → Refused code width encoding sheet (Sheet fault 4)
+    calendar_refused fault h =
+        inr (inl (record {
+          rest = kind.after;
+          bytes = kind.bytes;
+          byte = refl;
+          cause = subst (λ l. FrameFault 2 0 1024 l fault) behind_kind h;
+        }))
+
 -- from what the code read
 pub begun_from : (sheet masks : List ℕ) (read answered code : ℕ) → Framed 1 1 1 sheet (read ∷ []) → read ≡ answered → answered ≡ code
     → Framed 2 0 1024 (take (length sheet - 4) (drop 4 sheet)) masks → Begun code sheet masks
 begun_from sheet masks read answered code f e h = begun code sheet (right_kind sheet read answered code f e h) masks
 
 module _ {W : Type 0} (code width : ℕ) (encoding : W → List ℕ) (sheet masks : List ℕ) (b : Begun code sheet masks) where
+  pub accepted : (count : ℕ) → JobsRead code width encoding sheet (7 + length masks) (length sheet) count
+      → Accepted code width encoding sheet masks (take (length sheet - (7 + length masks)) (drop (7 + length masks) sheet)) count
+  accepted count r =
+      record {
+        jobs = r.jobs;
+        bytes = b.bytes ∙ ap (λ l. kind_record code ++ (record_bytes 2 masks ++ l)) (sym (take_rest sheet (7 + length masks)) ∙ r.bytes);
+        listed = r.bytes;
+        number = r.number;
+        few = b.few;
+        table = r.table;
+      }
+
   pub jobs_refused_whole : (fault : LoadFault) → JobsRefused code width encoding sheet (7 + length masks) fault → Refused code width encoding sheet fault
   jobs_refused_whole fault r =
       let first = 7 + length masks in

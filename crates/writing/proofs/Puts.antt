@@ -1,14 +1,17 @@
 -- Bytes put one after the other. Assumes nothing.
-use Rattle.std.proofs.Common.{◌≡◌, ℕ, ◌+◌, ◌≤◌, List, [], ◌++◌, length, take, drop, refl, sym, subst, ap, ◌∙◌, arith}
-use Rattle.std.proofs.lemmas.List.{append_assoc, take-append-drop, take_at, drop_at, drop-drop, length-append, length-drop, length-take-le}
+use Rattle.std.proofs.Common.{◌≡◌, ℕ, ◌+◌, ◌<◌, ◌≤◌, List, [], ◌∷◌, ◌++◌, length, take, drop, set, refl, sym, subst, ap, ◌∙◌, add-one, arith}
+use Rattle.std.proofs.lemmas.List.{append_assoc, take-append-drop, take_at, drop_at, drop-drop, length-append, length-drop, length-take-le, set_split}
 use Rattle.writing.specs.declared.front.Front.{Front}
 use Rattle.writing.specs.Puts.{Put, Room, Adds}
 
-put_nothing : (at : ℕ) (out : List ℕ) → Put at [] out out at
+pub put_nothing : (at : ℕ) (out : List ℕ) → Put at [] out out at
 put_nothing at out = record { buffer = sym (take-append-drop at out); place = omega arith }
 
+pub put_one : (at b : ℕ) (out : List ℕ) → at < length out → Put at (b ∷ []) out (set out at b) (at + 1)
+put_one at b out h = record { buffer = set_split out at b h ∙ ap (λ k. take at out ++ b ∷ drop k out) (sym (add-one at)); place = omega arith }
+
 -- some bytes, and more behind them
-put_then : (at m n : ℕ) (xs ys a b c : List ℕ) → at ≤ length a → Put at xs a b m → Put m ys b c n → Put at (xs ++ ys) a c n
+pub put_then : (at m n : ℕ) (xs ys a b c : List ℕ) → at ≤ length a → Put at xs a b m → Put m ys b c n → Put at (xs ++ ys) a c n
 put_then at m n xs ys a b c h p q =
     let front = take at a ++ xs in
     let mid : b ≡ front ++ drop m a = p.buffer ∙ sym (append_assoc (take at a) xs (drop m a)) in

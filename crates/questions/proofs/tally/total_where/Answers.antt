@@ -1,7 +1,7 @@
 use Rattle.std.proofs.Common.{◌++◌, ◌∷◌, [], length, fold, sym, ap, ◌∙◌, subst, ⊎_elim, inl, inr, length-append, arith}
 use mathlib.Core.Bool.{beq}
 use Rattle.std.proofs.lemmas.List.Sums.{fold_push}
-use Rattle.questions.proofs.Tallies.{none_where, folded}
+use Rattle.questions.proofs.Tallies.{none_where, where_front, folded}
 use Rattle.questions.proofs.tally.total_where.Goals as goal
 
 pub returns-in_err-total-clause-cases : goal.returns-in_err-total-clause-cases
@@ -26,4 +26,4 @@ pub returns-clause-cases : goal.returns-clause-cases
 returns-clause-cases g c =
     let t = g.W.TotalledWeight in
     let none = none_where c.args.kept _ _ (⊎_elim (λ a. inl a.1.0) (λ b. inr b.1.0) c.in-None.ensures.steps) in
-    ((omega arith, omega arith), sym (ap (fold t.plus c.loop-row.total) none) ∙ c.loop-row.invariant.2 ∙ folded t.nothing t.plus g.met.W.TotalledWeight.commutes c.args.kept c.args.rows.now c.args.store.now)
+    ((omega arith, omega arith), sym (ap (fold t.plus c.loop-row.total) none) ∙ c.loop-row.invariant.2 ∙ ap (fold t.plus t.nothing) (where_front c.args.kept c.args.rows.now c.args.store.now) ∙ folded t.nothing t.plus g.met.W.TotalledWeight.commutes c.args.kept c.args.rows.now c.args.store.now)
