@@ -23,15 +23,14 @@ pub fn widest_front() -> usize
 pub fn read_front(input: &mut impl Read, buffer: &mut [u8]) -> io::Result<usize>
     ensures { IfOk result (λ len. len ≤ length buffer.old) }
 {
-    let size = buffer.len();
-    let mut rest = buffer;
+    let mut len = 0;
     // A loop of reads into a buffer of fixed size: an endless input takes no more memory than its front.
-    while !rest.is_empty() {
-        let got = input.read(rest)?;
+    while len < buffer.len() {
+        let got = input.read(&mut buffer[len..])?;
         if got == 0 {
             break;
         }
-        rest = &mut rest[got..];
+        len += got;
     }
-    Ok(size - rest.len())
+    Ok(len)
 }
