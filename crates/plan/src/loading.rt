@@ -25,7 +25,7 @@ impl Plan {
         ensures cases { MatchResult result (λ masks. Loaded W.OrderedWeight.CODE W.OrderedWeight.WIDTH W.OrderedWeight.encoding W.OrderedWeight.no_lighter carried_on sheet.now masks.now (at (rows_in self.old) store.old) (at (rows_in self.new) store.new)) (LoadRefused W.OrderedWeight.CODE W.OrderedWeight.WIDTH W.OrderedWeight.encoding sheet.now store.old) }
         ensures refused { OnErr result ((self.new ≡ self.old) × (store.new ≡ store.old)) }
     {
-        // Tested here too, since this refusal comes before the reader's.
+        // Tested first, since this refusal comes before the reader's.
         if store.len() < 256 {
             return Err(LoadRefusal::StoreTooShort);
         }
@@ -34,12 +34,11 @@ impl Plan {
         // A sheet that was read has at most 1,024 masks, so that its calendar is always made.
         let calendar = Listed::new(masks).unwrap();
         // The reader has seen that a table takes the jobs.
-        let filled = if carried_on {
-            self.fill_from(&CarriedOn::new(calendar), store, &accepted)
+        if carried_on {
+            self.fill_admitted(&CarriedOn::new(calendar), store, &accepted);
         } else {
-            self.fill_from(&calendar, store, &accepted)
-        };
-        filled.unwrap();
+            self.fill_admitted(&calendar, store, &accepted);
+        }
         Ok(masks)
     }
 }

@@ -1,5 +1,4 @@
 use Rattle.std.proofs.Common.{true, false, ap, ◌∙◌, arith}
-use Rattle.std.specs.Result.{is_ok}
 use Rattle.std.proofs.lemmas.Result.{MatchResult-at_ok}
 use Rattle.calls.specs.Moments.{at}
 use Rattle.plan.specs.Plans.{rows_in}
@@ -21,13 +20,13 @@ returns g c =
     record {
       cases = elim c.if-carried_on.branch [
         | then-carried_on v ↦
-            load c.args.carried_on true lent v.new-then-carried_on.result.below.masks.now (rows_in plan) (rows_in v.fill_from-filled.new.self) store v.fill_from-filled.new.store (is_ok v.fill_from-filled.result)
+            load c.args.carried_on true lent v.new-then-carried_on.result.below.masks.now (rows_in plan) (rows_in v.fill_admitted.new.self) store v.fill_admitted.new.store true
             v.if-carried_on.true c.masks-masks.ensures (ap (λ l. l.masks.now) v.new-then-carried_on.ensures.made ∙ calendar) (ap rows_in v.self-is) v.store-is
-            (v.fill_from-filled.ensures.outcome a.jobs (a.listed, a.number))
+            (v.fill_admitted.ensures.outcome a.jobs (a.listed, a.number) a.table)
         | else-carried_on v ↦
-            load c.args.carried_on false lent c.unwrap-calendar.result.masks.now (rows_in plan) (rows_in v.fill_from-filled-else-carried_on.new.self) store v.fill_from-filled-else-carried_on.new.store (is_ok v.fill_from-filled-else-carried_on.result)
+            load c.args.carried_on false lent c.unwrap-calendar.result.masks.now (rows_in plan) (rows_in v.fill_admitted-else-carried_on.new.self) store v.fill_admitted-else-carried_on.new.store true
             v.if-carried_on.false c.masks-masks.ensures calendar (ap rows_in v.self-is) v.store-is
-            (v.fill_from-filled-else-carried_on.ensures.outcome a.jobs (a.listed, a.number))
+            (v.fill_admitted-else-carried_on.ensures.outcome a.jobs (a.listed, a.number) a.table)
       ];
       refused = tt;
     }
