@@ -27,8 +27,10 @@ pub(crate) fn job_of<W: OrderedWeight>(value: &[u8]) -> Result<Job<W>, WeightFau
 pub(crate) fn number_taken<W: OrderedWeight>(records: &[u8], number: u16) -> bool
     ensures { (jobs : List (Job W)) → records.now ≡ job_records W.OrderedWeight.encoding jobs → result ≡ taken number jobs }
 {
+    // Compared as a sheet writes it, so that no record's number is put together.
+    let wanted = number.to_be_bytes();
     let mut parts = records.chunks_exact(9 + W::WIDTH);
-    parts.any(|record| u16::from_be_bytes([record[3], record[4]]) == number)
+    parts.any(|record| record[3] == wanted[0] && record[4] == wanted[1])
 }
 
 // The job of the k-th of these records; None where there is no such record, or its bytes are no job.
